@@ -1,0 +1,1 @@
+// What holds of every run of the rules. Theorems only: see specs/.

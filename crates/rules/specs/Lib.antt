@@ -1,0 +1,10 @@
+pub mod Sizes
+pub mod Types
+pub mod Answers
+pub mod Model
+pub mod Moves
+pub mod Calls
+pub mod Listing
+pub mod Runs
+pub mod Open
+pub mod Worked
