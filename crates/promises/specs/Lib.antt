@@ -1,2 +1,15 @@
 pub mod Types
 pub mod WorkedRuns
+pub mod Lists
+pub mod Scans
+pub mod Sound
+pub mod Moves
+pub mod States
+pub mod QueuedKept
+pub mod Alike
+pub mod NumberedKept
+pub mod CountedKept
+pub mod Ring
+pub mod Digits
+pub mod ListingBound
+pub mod Wakes
