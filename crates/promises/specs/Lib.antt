@@ -13,3 +13,5 @@ pub mod Ring
 pub mod Digits
 pub mod ListingBound
 pub mod Wakes
+pub mod TidyKept
+pub mod AsleepKept

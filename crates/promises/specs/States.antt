@@ -26,15 +26,16 @@ used-range [] s e = absurd (clash free-unused e)
 used-range (x ∷ l) zero e = zero-lt-suc (length l)
 used-range (x ∷ l) (suc s) e = omega (arith, used-range l s e)
 
--- a slot that neither waits nor runs
+-- a used slot that neither waits nor runs, and is not ZOMBIE
 pub record Quiet (p : Process) : Type 0 where
   pub used : is UNUSED p ≡ false
   pub ready : is RUNNABLE p ≡ false
   pub busy : is RUNNING p ≡ false
+  pub live : is ZOMBIE p ≡ false
 
 pub quiet : (p : Process) → (is ALLOCATED p ≡ true) ⊎ (is SLEEPING p ≡ true) → Quiet p
-quiet p (inl e) = record { used = other ALLOCATED UNUSED p e; ready = other ALLOCATED RUNNABLE p e; busy = other ALLOCATED RUNNING p e }
-quiet p (inr e) = record { used = other SLEEPING UNUSED p e; ready = other SLEEPING RUNNABLE p e; busy = other SLEEPING RUNNING p e }
+quiet p (inl e) = record { used = other ALLOCATED UNUSED p e; ready = other ALLOCATED RUNNABLE p e; busy = other ALLOCATED RUNNING p e; live = other ALLOCATED ZOMBIE p e }
+quiet p (inr e) = record { used = other SLEEPING UNUSED p e; ready = other SLEEPING RUNNABLE p e; busy = other SLEEPING RUNNING p e; live = other SLEEPING ZOMBIE p e }
 
 -- ---- harts
 pub hart-range : (l : List Parent) (h : ℕ) (x : Slot) → getD l h Nobody ≡ Of x → h < length l
