@@ -4,10 +4,10 @@ use mathlib.Core.Path.{_≡_, refl, sym, _∙_}
 use mathlib.Core.Bool.{Bool, true, false}
 use mathlib.Core.List.{List}
 use lib.ListN.{length, getD, set, length-set}
-use Rattle.promises.specs.Types.{UNUSED, SLEEPING, ZOMBIE, Parent, Nobody, Of, Process, Kin, Start}
+use Rattle.promises.specs.Types.{UNUSED, RUNNABLE, SLEEPING, ZOMBIE, Parent, Nobody, Of, Process, Kin, Start}
 use Rattle.rules.specs.Sizes.{slotCount, pidTop, ownChannel}
-use Rattle.rules.specs.Model.{Core, Books, Table, at, free, taken, is, onMeta, asSleeping, asZombie, asKilled, withParent}
-use Rattle.rules.specs.Moves.{change, publish, idle, yieldOn, sleepOn, zombieOn, publishIf, sleepsOn, wakeOne, wake, wakeOf, resize, reap}
+use Rattle.rules.specs.Model.{Core, Books, Table, at, free, taken, is, onMeta, asRunning, asSleeping, asZombie, asKilled, withParent}
+use Rattle.rules.specs.Moves.{change, publish, hand, idle, yieldOn, sleepOn, zombieOn, publishIf, sleepsOn, wakeOne, wake, wakeOf, resize, reap}
 use Rattle.rules.specs.Calls.{fill, spent}
 use Rattle.promises.specs.Lists.{and-left, rel-set}
 use Rattle.promises.specs.Scans.{sweep-keeps}
@@ -91,3 +91,7 @@ view v (filling s k b d w y _) = fills s k b d w y
 view v (freeing {t} s z) = frees s (t .core) refl (other ZOMBIE UNUSED (at (t .core) s) z)
 view v (returning {t} h s e _) = frees s (idle h (t .core)) refl (runs-used h s (t .core) v e)
 view v (resizing g n j r e) = resizes g n j r e
+
+pub hand-view : (t : Table) (h s : ℕ) (rest : List ℕ) → is RUNNABLE (at (t .core) s) ≡ true → View t (onCore (hand h s rest) t)
+unfolding onCore hand change
+hand-view t h s rest e = stirs _ (alikes-set (t .core .slots) s _ (kept (at (t .core) s) (onMeta asRunning (at (t .core) s)) refl refl refl (other RUNNABLE UNUSED (at (t .core) s) e)))

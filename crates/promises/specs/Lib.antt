@@ -4,6 +4,7 @@ pub mod Lists
 pub mod Scans
 pub mod Sound
 pub mod Moves
+pub mod Books
 pub mod States
 pub mod QueuedKept
 pub mod Alike
@@ -15,3 +16,6 @@ pub mod ListingBound
 pub mod Wakes
 pub mod TidyKept
 pub mod AsleepKept
+pub mod Kept
+pub mod Shape
+pub mod Walks

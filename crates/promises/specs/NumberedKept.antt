@@ -6,14 +6,14 @@ use mathlib.Core.Logic.{_⊎_, inl, inr}
 use mathlib.Core.Bool.{Bool, true, false}
 use mathlib.Core.List.{List}
 use lib.ListN.{getD, set}
-use Rattle.promises.specs.Types.{Pid, UNUSED, Member, Alone, In, Process, Kin, Start}
-use Rattle.rules.specs.Model.{Core, Books, Table, at, free, taken, is}
-use Rattle.rules.specs.Moves.{change, leaveGroup, openGroup, joinGroup, resize, setInit, spend, toFree, reap}
+use Rattle.promises.specs.Types.{Pid, UNUSED, Process}
+use Rattle.rules.specs.Model.{Core, Table, at, free, taken, is}
+use Rattle.rules.specs.Moves.{change, resize, spend, toFree, reap}
 use Rattle.rules.specs.Calls.{fill, spent}
+use Rattle.promises.specs.Books.{leave-pids, birth-pids}
 use Rattle.promises.specs.Lists.{clash, all-set, set-cases}
 use Rattle.promises.specs.Sound.{Numbered}
 use Rattle.promises.specs.States.{free-unused}
-use Rattle.promises.specs.Moves.{Birth, ofInit, ofSystem, ofChild, ofThread}
 use Rattle.promises.specs.Alike.{Alikes, View, stirs, spends, fills, frees, resizes}
 
 numbered-alike : (c d : Core) (n : ℕ) → Alikes (c .slots) (d .slots) → Numbered c n → Numbered d n
@@ -75,19 +75,6 @@ numbered-fill s p c n k l new w = record {
     go-once i j u v q (inl e) (inr f) = absurd (omega (arith, pids (e .1), pids f, new j))
     go-once i j u v q (inr e) (inl f) = absurd (omega (arith, pids (f .1), pids e, new i))
     go-once i j u v q (inr e) (inr f) = w .once i j (sym (ap (is UNUSED) e) ∙ u) (sym (ap (is UNUSED) f) ∙ v) (sym (pids e) ∙ q ∙ pids f)
-
--- ---- the counter moves only when it is spent
-birth-pids : {t : Table} {s : ℕ} {k : Kin} {d : Books} → Birth t s k d → d .pids ≡ t .books .pids
-unfolding setInit openGroup joinGroup
-birth-pids (ofInit _ _) = refl
-birth-pids ofSystem = refl
-birth-pids (ofChild _ _ _) = refl
-birth-pids (ofThread _ _ _ _ _ _ _) = refl
-
-leave-pids : (m : Member) (b : Books) → leaveGroup m b .pids ≡ b .pids
-unfolding leaveGroup
-leave-pids Alone b = refl
-leave-pids (In g) b = refl
 
 pub view-numbered : {t u : Table} → Numbered (t .core) (t .books .pids) → View t u → Numbered (u .core) (u .books .pids)
 unfolding spent spend reap taken resize

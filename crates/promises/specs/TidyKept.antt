@@ -3,16 +3,18 @@ use Prim.Native.Nat.{ℕ, _≤_}
 use native.Mathlib.Omega.{arith}
 use mathlib.Core.Path.{_≡_, refl, ap}
 use mathlib.Core.Bool.{Bool, true, false}
+use mathlib.Core.List.{List}
 use lib.ListN.{length, getD, set, length-replicate}
 use lib.Dec.{eqb}
 use lib.Seq.{getD-set-same, getD-set-other}
 use borrow.Author.Tests.{eq-eqb, eqb-true, eqb-false}
-use Rattle.promises.specs.Types.{UNUSED, SLEEPING, ZOMBIE, Slot, Parent, Nobody, Of, Member, Alone, In, ProcMeta, Process, Kin, Start}
+use Rattle.promises.specs.Types.{UNUSED, RUNNABLE, SLEEPING, ZOMBIE, Slot, Parent, Nobody, Of, Member, Alone, In, ProcMeta, Process, Kin, Start}
 use Rattle.rules.specs.Sizes.{slotCount, nameSize, ownChannel}
-use Rattle.rules.specs.Model.{Core, Books, Table, at, free, taken, is, isSlot, known, slot, onMeta, asRunnable, asSleeping, asZombie, asKilled, withParent}
-use Rattle.rules.specs.Moves.{change, publish, idle, yieldOn, sleepOn, zombieOn, publishIf, sleepsOn, wakeOne, wake, wakeOf, leaveGroup, openGroup, joinGroup, resize, setInit, spend, toFree, reap}
+use Rattle.rules.specs.Model.{Core, Books, Table, at, free, taken, is, isSlot, known, slot, onMeta, asRunnable, asRunning, asSleeping, asZombie, asKilled, withParent}
+use Rattle.rules.specs.Moves.{change, publish, hand, idle, yieldOn, sleepOn, zombieOn, publishIf, sleepsOn, wakeOne, wake, wakeOf, openGroup, joinGroup, resize, setInit, spend, toFree, reap}
 use Rattle.rules.specs.Calls.{fill, spent}
 use Rattle.promises.specs.Lists.{and-left, clash, all-set}
+use Rattle.promises.specs.Books.{leave-init}
 use Rattle.promises.specs.Scans.{sweep-keeps}
 use Rattle.promises.specs.Sound.{isIn, Queued, First, Tidy}
 use Rattle.promises.specs.States.{other, free-unused, quiet, runs-running, runs-used}
@@ -90,11 +92,6 @@ not-first init s p w f = go (isSlot s init) refl
     go true e = absurd (f (w .first e))
     go false e = e
 
-leave-init : (m : Member) (b : Books) → leaveGroup m b .init ≡ b .init
-unfolding leaveGroup
-leave-init Alone b = refl
-leave-init (In g) b = refl
-
 -- ---- births
 -- a user slot just taken, whose parent is known unless it is init
 tidy-user : (init : Parent) (s n : ℕ) (k : Kin) (b : Start) → length (b .name) ≤ nameSize → known init ≡ true → k .system ≡ false → isIn (k .group) ≡ true
@@ -156,6 +153,10 @@ module _ (t : Table) (s n : ℕ) (b : Start) (l : length (b .name) ≤ nameSize)
       (tidy-user (t .books .init) s n _ b l a refl refl (λ _. refl) (λ f. absurd (clash f unused-not-init)))
   birth-tidy (ofThread a g q h _ _ _) = change-tidy (t .books .init) (t .core) w (λ _. taken n _ b) s
       (tidy-user (t .books .init) s n _ b l a refl refl (λ _. h) (λ f. absurd (clash f unused-not-init)))
+
+pub hand-tidy : (init : Parent) (h s : ℕ) (rest : List ℕ) (c : Core) → is RUNNABLE (at c s) ≡ true → AllTidy init c → AllTidy init (hand h s rest c)
+unfolding hand change
+hand-tidy init h s rest c e w = change-tidy init c w (onMeta asRunning) s (tidy-meta init s (at c s) asRunning (other RUNNABLE UNUSED (at c s) e) refl (λ _. refl) (w s))
 
 pub move-tidy : {t u : Table} → Queued (t .core) → AllTidy (t .books .init) (t .core) → Move t u → AllTidy (u .books .init) (u .core)
 unfolding onCore sleepOn zombieOn yieldOn idle spent spend reap resize

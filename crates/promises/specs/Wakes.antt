@@ -28,7 +28,7 @@ pub record Calm (p y : Process) : Type 0 where
 pub calm-same : (p : Process) → Calm p p
 calm-same p = record { kin = refl; used = refl; zombie = refl; sleeps = λ ch e. e }
 
-calm-then : {p q r : Process} → Calm p q → Calm q r → Calm p r
+pub calm-then : {p q r : Process} → Calm p q → Calm q r → Calm p r
 calm-then a b = record {
   kin = b .kin ∙ a .kin;
   used = b .used ∙ a .used;
@@ -43,7 +43,7 @@ calm-awake p y k u z v x n = record { kin = k; used = v ∙ sym u; zombie = x �
 pub calm-set : (l : List Process) (s : ℕ) (y : Process) → Calm (getD l s free) y → (j : ℕ) → Calm (getD l j free) (getD (set l s y) j free)
 calm-set l s y k = rel-set Calm calm-same l s y free k
 
-publish-calm : (s : ℕ) (c : Core) → is SLEEPING (at c s) ≡ true → (j : ℕ) → Calm (at c j) (at (publish s c) j)
+pub publish-calm : (s : ℕ) (c : Core) → is SLEEPING (at c s) ≡ true → (j : ℕ) → Calm (at c j) (at (publish s c) j)
 unfolding publish change
 publish-calm s c e = calm-set (c .slots) s (onMeta asRunnable (at c s))
     (calm-awake (at c s) _ refl (other SLEEPING UNUSED (at c s) e) (other SLEEPING ZOMBIE (at c s) e) refl refl refl)
