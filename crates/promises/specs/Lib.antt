@@ -19,3 +19,6 @@ pub mod AsleepKept
 pub mod Kept
 pub mod Shape
 pub mod Walks
+pub mod Exits
+pub mod Refusals
+pub mod Steps
