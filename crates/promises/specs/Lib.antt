@@ -22,3 +22,4 @@ pub mod Walks
 pub mod Exits
 pub mod Refusals
 pub mod Steps
+pub mod Reached

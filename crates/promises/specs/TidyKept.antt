@@ -72,7 +72,7 @@ tidy-adopted init i p k w = record {
 }
 
 -- ---- a slot that is not init is freed
-tidy-free : (init : Parent) (s : ℕ) → isSlot s init ≡ false → Tidy init s free
+pub tidy-free : (init : Parent) (s : ℕ) → isSlot s init ≡ false → Tidy init s free
 unfolding free
 tidy-free init s e = record {
   unused = λ _. refl;

@@ -1,26 +1,16 @@
 -- Document 01's starred worked runs, A to H: one list, one claim.
-use Prim.Native.Nat.{ℕ, zero, suc}
+use Prim.Native.Nat.{ℕ}
 use mathlib.Core.Path.{_≡_, refl}
 use mathlib.Core.Bool.{true}
 use mathlib.Core.List.{List, [], _∷_, _++_}
-use lib.ListN.{replicate, drop}
+use lib.ListN.{replicate}
 use lib.IntN.{ℤ, pos, negsuc}
-use Rattle.promises.specs.Types.{NotWanted, Writable, Mapped, TableFull, BadAddress, NoneSuch, SizeOutOfLimits, NoRoom, Answer, Done, Made, Handed, Reaped, Joined, Blocked, Refused, Fits, Short}
+use Rattle.promises.specs.Types.{NotWanted, Writable, TableFull, BadAddress, NoneSuch, SizeOutOfLimits, NoRoom, Answer, Done, Made, Handed, Reaped, Joined, Blocked, Refused, Fits, Short}
 use Rattle.rules.specs.Model.{pid, slot}
 use Rattle.rules.specs.Listing.{bytes}
-use Rattle.rules.specs.Runs.{Call, boot, start, fork, thread, dispatch, kill, wait, join, exit, threadExit, grow}
+use Rattle.rules.specs.Runs.{fork, dispatch, kill, wait, join, exit, threadExit, grow}
 use Rattle.rules.specs.Open.{everything}
-use Rattle.rules.specs.Worked.{Case, Look, sameInt, sameBy, sameAnswer, rightLooks, right, wrong}
-
--- init runs on hart 0, and then these
-abbrev up : List Call → List Call
-up cs = boot ∷ start ∷ dispatch 0 ∷ cs
-
-abbrev mapped : Mapped
-mapped = record { entry = true; ret = true; stack = true; top = true }
-
-abbrev ask : ℕ → ℕ → Call
-ask stack entry = thread 0 (record { entry = entry; arg = 9; stack = stack; ret = 1 }) mapped
+use Rattle.rules.specs.Worked.{Case, Look, up, ask, countFrom, sameInt, sameBy, sameAnswer, rightLooks, right, wrong}
 
 -- init makes a thread, which exits with x on hart 1, and joins it
 abbrev joining : ℕ → ℤ → Case
@@ -28,11 +18,6 @@ joining x z = record { calls = up (ask 0 0 ∷ dispatch 1 ∷ threadExit 1 x ∷
 
 abbrev growing : ℤ → Answer → Case
 growing d a = record { calls = up (grow 0 d true ∷ []); ends = a ∷ []; queue = []; looks = [] }
-
--- n numbers from i on
-unfoldable pub countFrom : ℕ → ℕ → List ℕ
-countFrom i zero = []
-countFrom i (suc n) = i ∷ countFrom (suc i) n
 
 abbrev textA : List ℕ
 textA = bytes "pid: 1 state: SLEEPING name: initname\npid: 2 state: RUNNABLE name: initname\n"

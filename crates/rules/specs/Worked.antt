@@ -5,11 +5,11 @@ use mathlib.Core.List.{List, [], _∷_, _++_}
 use lib.ListN.{length, drop, replicate}
 use lib.Dec.{eqb}
 use lib.IntN.{ℤ, pos, negsuc}
-use Rattle.rules.specs.Types.{Answer, Room}
+use Rattle.rules.specs.Types.{Mapped, Answer, Room}
 use Rattle.rules.specs.Answers.{valuesOf, roomValues}
 use Rattle.rules.specs.Model.{Table, fresh}
 use Rattle.rules.specs.Listing.{roomFor, listedPart}
-use Rattle.rules.specs.Runs.{Call, run}
+use Rattle.rules.specs.Runs.{Call, boot, start, thread, dispatch, run}
 
 -- the listing into a buffer of that room: the companion's answer, and the part written
 pub record Look : Type 0 where
@@ -24,6 +24,24 @@ pub record Case : Type 0 where
   pub queue : List ℕ
   pub looks : List Look
 
+-- ---- calls and queues that come up often
+-- init runs on hart 0, and then these
+abbrev pub up : List Call → List Call
+up cs = boot ∷ start ∷ dispatch 0 ∷ cs
+
+abbrev pub mapped : Mapped
+mapped = record { entry = true; ret = true; stack = true; top = true }
+
+-- hart 0 makes a thread
+abbrev pub ask : ℕ → ℕ → Call
+ask stack entry = thread 0 (record { entry = entry; arg = 9; stack = stack; ret = 1 }) mapped
+
+-- n numbers from i on
+unfoldable pub countFrom : ℕ → ℕ → List ℕ
+countFrom i zero = []
+countFrom i (suc n) = i ∷ countFrom (suc i) n
+
+-- ---- whether the definitions agree
 unfoldable pub sameInt : ℤ → ℤ → Bool
 sameInt (pos n) (pos m) = eqb n m
 sameInt (pos n) (negsuc m) = false
