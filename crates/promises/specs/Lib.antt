@@ -23,3 +23,5 @@ pub mod Exits
 pub mod Refusals
 pub mod Steps
 pub mod Reached
+pub mod FirstOut
+pub mod Demand3
