@@ -25,3 +25,7 @@ pub mod Steps
 pub mod Reached
 pub mod FirstOut
 pub mod Demand3
+pub mod Panics
+pub mod Ledger
+pub mod Refused
+pub mod Listed

@@ -188,6 +188,16 @@ unfolding sumTo
 sum-most f h zero = omega arith
 sum-most f h (suc n) = omega (arith, h n, sum-most f h n)
 
+-- one of them is 0
+pub sum-below : (f : ℕ → ℕ) → ((i : ℕ) → f i ≤ 1) → (n j : ℕ) → j < n → f j ≡ 0 → sumTo f n < n
+unfolding sumTo
+sum-below f h zero j l e = absurd (not-suc-le-zero l)
+sum-below f h (suc n) j l e = go (eqb j n) refl (sum-below f h n j)
+  where
+    go : (b : Bool) → eqb j n ≡ b → (j < n → f j ≡ 0 → sumTo f n < n) → f n + sumTo f n < suc n
+    go true q k = omega (arith, sum-most f h n, ap f (eqb-true j n q))
+    go false q k = let ne : j ≢ n = eqb-false j n q in omega (arith, h n, k (omega arith) e)
+
 pub sum-least : (f : ℕ → ℕ) (n : ℕ) → ((i : ℕ) → i < n → 1 ≤ f i) → n ≤ sumTo f n
 unfolding sumTo
 sum-least f zero h = omega arith

@@ -106,20 +106,23 @@ unfolding reparent sweep onCore
 reparent-chain t s w = chain-steps (λ n. onCore (sweep (handOver (t .books .init) s) n) t) w
     (λ i _. handOver-chain (onCore (sweep (handOver (t .books .init) s) i) t) s i) slotCount
 
--- it leaves the harts alone, and who is a thread
+-- it leaves the harts alone, and who is a thread or a system thread
 pub record Steady (c d : Core) : Type 0 where
   pub harts : d .harts ≡ c .harts
   pub thread : (j : ℕ) → at d j .kin .thread ≡ at c j .kin .thread
+  pub system : (j : ℕ) → at d j .kin .system ≡ at c j .kin .system
 
 pub reparent-steady : (init : Parent) (s : ℕ) (c : Core) → Steady c (reparent init s c)
 unfolding reparent handOver change
-reparent-steady init s c = sweep-keeps (Steady c) (handOver init s) (λ i d w. go i d w (isSlot s (at d i .kin .parent))) slotCount c (record { harts = refl; thread = λ j. refl })
+reparent-steady init s c = sweep-keeps (Steady c) (handOver init s) (λ i d w. go i d w (isSlot s (at d i .kin .parent))) slotCount c (record { harts = refl; thread = λ j. refl; system = λ j. refl })
   where
     adopt : (i : ℕ) (d : Core) → Steady c d → Steady c (wakeOf init (change (withParent init) i d))
     adopt i d w = record {
       harts = wakeOf-harts init (change (withParent init) i d) ∙ w .harts;
       thread = λ j. ap (λ (k : Kin). k .thread) (wakeOf-calm init (change (withParent init) i d) j .kin)
           ∙ rel-set (λ p y. y .kin .thread ≡ p .kin .thread) (λ _. refl) (d .slots) i (withParent init (at d i)) free refl j ∙ w .thread j;
+      system = λ j. ap (λ (k : Kin). k .system) (wakeOf-calm init (change (withParent init) i d) j .kin)
+          ∙ rel-set (λ p y. y .kin .system ≡ p .kin .system) (λ _. refl) (d .slots) i (withParent init (at d i)) free refl j ∙ w .system j;
     }
 
     go : (i : ℕ) (d : Core) → Steady c d → (b : Bool) → Steady c (cond b (wakeOf init (change (withParent init) i d)) d)

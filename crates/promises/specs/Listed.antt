@@ -1,0 +1,31 @@
+-- The listing of every reached table: 64 * 66 bytes always suffice, and its numbers are the pids.
+use Prim.Native.Nat.{ℕ, _^_, _≤_, _<_}
+use native.Mathlib.Omega.{arith}
+use mathlib.Core.Path.{_≡_, refl}
+use mathlib.Core.List.{List}
+use lib.ListN.{length}
+use borrow.Author.Tests.{le-leb}
+use Rattle.promises.specs.Types.{Fits}
+use Rattle.rules.specs.Sizes.{pidTop, listingTop}
+use Rattle.rules.specs.Model.{at}
+use Rattle.rules.specs.Listing.{digits, listing, fitsIn, roomFor, listedPart}
+use Rattle.rules.specs.Runs.{Call}
+use Rattle.promises.specs.Digits.{valueOf, digits-value}
+use Rattle.promises.specs.ListingBound.{listing-short}
+use Rattle.promises.specs.Reached.{reached, reached-sound}
+
+pub listing-bounded : (cs : List Call) → length (listing (reached cs)) ≤ listingTop
+listing-bounded cs = let w = reached-sound cs in listing-short (reached cs) (w .queued .tall) (λ s. w .tidy s .name)
+
+-- a buffer of that size gets the text
+pub listing-suffices : (cs : List Call) (b : List ℕ) → listingTop ≤ length b
+    → (listedPart (reached cs) b ≡ listing (reached cs)) × (roomFor (reached cs) (length b) ≡ Fits (length (listing (reached cs))))
+unfolding listedPart roomFor fitsIn
+listing-suffices cs b l = let e = le-leb (length (listing (reached cs))) (length b) (omega (arith, listing-bounded cs)) in (rw e, rw e)
+
+pids-short : (n : ℕ) → n ≤ pidTop → n < 10 ^ 20
+unfolding pidTop
+pids-short n l = omega arith
+
+pub listing-pids : (cs : List Call) (s : ℕ) → valueOf (digits (at (reached cs .core) s .meta .pid .0)) ≡ at (reached cs .core) s .meta .pid .0
+listing-pids cs s = let w = reached-sound cs .numbered in digits-value _ (pids-short _ (omega (arith, w .high s, w .top)))
