@@ -29,3 +29,4 @@ pub mod Panics
 pub mod Ledger
 pub mod Refused
 pub mod Listed
+pub mod EmptyPrograms

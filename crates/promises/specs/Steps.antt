@@ -129,7 +129,7 @@ module _ (t : Table) (w : Sound t) where
       refuseIf-any (Ended (systemReturn h) t) _ WrongWayOut t _ (refused WrongWayOut refl refl) λ y.
       granted Done _ (leave-pids _ _) (one (returning h s e (not-false _ y)))
 
--- ---- fork, thread creation
+  -- ---- fork, thread creation
   forked-ends : (h : ℕ) (memory : Bool) → Ended (fork h memory) t (forked t h memory)
   unfolding forked forkedBy forkedIn madeIn childIn publishNew onCore spent spend mayGive among spendsPid forks numberOf
   forked-ends h memory =
@@ -155,7 +155,7 @@ module _ (t : Table) (w : Sound t) where
       (w .tidy s .name)))
       (publishing c (inl (filled c _ _ _ (t .core) r))))
 
--- ---- dispatch, yield, sleep, wake, kill
+  -- ---- dispatch, yield, sleep, wake, kill
   dispatched-ends : (h : ℕ) → Ended (dispatch h) t (dispatched t h)
   unfolding dispatched handNext mayGive among spendsPid forks numberOf
   dispatched-ends h =
@@ -196,7 +196,7 @@ module _ (t : Table) (w : Sound t) where
       found-any (Ended (kill p) t) NoneSuch t _ _ (refused NoneSuch refl refl) λ i o.
       granted Done _ refl (slay-chain t i (not-true _ (and-left _ _ (lowest-passes (hasPid p) (t .core .slots) free i o))))
 
--- ---- wait, join
+  -- ---- wait, join
   -- a test that no free slot passes, and that no slot is found to pass, is passed nowhere
   nowhere : (test : Process → Bool) → test free ≡ false → lowest test (t .core .slots) ≡ none → (j : ℕ) → test (at (t .core) j) ≡ false
   nowhere test f o j = go (leb (length (t .core .slots)) j) refl
@@ -243,7 +243,7 @@ module _ (t : Table) (w : Sound t) where
           apart : s ≢ i
           apart f = clash (rw (← f) at (and-right (threadOf (In g) (at (t .core) i)) (eqb (at (t .core) i .meta .pid .0) (p .0)) n)) own
 
--- ---- the ways out
+  -- ---- the ways out
   leaderExited-ends : (c : Call) (h x s : ℕ) → runs t h s → at (t .core) s .kin .thread ≡ false → isSlot s (t .books .init) ≡ false → Ended c t (leaderExited t h x s)
   unfolding leaderExited exitedPast moves onCore
   leaderExited-ends c h x s e y n = go (lowest (threadOf m) (u .core .slots)) refl
@@ -292,7 +292,7 @@ module _ (t : Table) (w : Sound t) where
       go s e n true y = granted Done _ refl (thread-chain t w h s e x y n)
       go s e n false y = leaderExited-ends (threadExit h x) h x s e y n
 
--- ---- grow
+  -- ---- grow
   grown-ends : (h : ℕ) (d : ℤ) (memory : Bool) → Ended (grow h d memory) t (grown t h d memory)
   unfolding grown grownBy grownTo resize mayGive among spendsPid forks numberOf
   grown-ends h d memory =
