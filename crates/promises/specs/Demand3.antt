@@ -1,22 +1,22 @@
 -- Demand 3 in plain words, of every table that calls make of a fresh one. First in, first out is in FirstOut.antt.
-use Prim.Native.Nat.{ℕ, _≤_, _<_}
+use Prim.Native.Nat.{ℕ, _<_}
 use native.Mathlib.Omega.{arith}
-use mathlib.Core.Path.{_≡_, refl, sym, ap, _∙_}
+use mathlib.Core.Path.{_≡_, refl, ap, _∙_}
 use mathlib.Core.Logic.{_≢_}
-use mathlib.Core.Bool.{Bool, true, false, not, _&&_}
+use mathlib.Core.Bool.{true, false, not}
 use mathlib.Core.List.{List, [], _∷_}
 use lib.ListN.{length, getD}
-use lib.Dec.{eqb, leb}
+use lib.Dec.{eqb}
 use borrow.Author.Tests.{eq-eqb, lt-leb}
 use Rattle.promises.specs.Types.{RUNNABLE, RUNNING, SLEEPING, ZOMBIE, Parent, Nobody, Of, Refusal, Handed, Refused}
 use Rattle.rules.specs.Sizes.{slotCount, hartCount, ownChannel}
-use Rattle.rules.specs.Model.{Core, Table, at, hartAt, is, isSlot, known, slot}
+use Rattle.rules.specs.Model.{Core, Table, at, hartAt, is, isSlot, slot}
 use Rattle.rules.specs.Moves.{hand, sleepsOn}
-use Rattle.rules.specs.Calls.{Outcome, gives, moves, refuse, refuseIf, handNext, dispatched, childOf, zombieChildOf}
+use Rattle.rules.specs.Calls.{Outcome, gives, moves, refuseIf, handNext, dispatched, childOf, zombieChildOf}
 use Rattle.rules.specs.Runs.{Call, dispatch, step}
-use Rattle.promises.specs.Lists.{and-both, clash, ind, ind-small, ind-true, tally, tally-one, tally-two, Stands, tally-stands}
-use Rattle.promises.specs.Sound.{Sound, Lives}
-use Rattle.promises.specs.States.{runs-running}
+use Rattle.promises.specs.Laws.Lists.{and-both, clash, ind, ind-small, ind-true, tally-one, tally-two, Stands, tally-stands}
+use Rattle.promises.specs.Order.Sound.{Sound, Lives}
+use Rattle.promises.specs.Order.States.{runs-running}
 use Rattle.promises.specs.FirstOut.{queued-once}
 use Rattle.promises.specs.Reached.{reached, reached-sound}
 

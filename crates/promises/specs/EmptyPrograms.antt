@@ -1,20 +1,20 @@
 -- Document 01's five empty programs, each shut out by the definition or the promise that it names.
-use Prim.Native.Nat.{ℕ, zero, suc, _+_, _-_, _≤_, _<_}
+use Prim.Native.Nat.{ℕ, _≤_, _<_}
 use native.Mathlib.Omega.{arith}
 use mathlib.Core.Path.{_≡_, refl, sym, ap, _∙_}
-use mathlib.Core.Bool.{Bool, true, false}
+use mathlib.Core.Bool.{true, false}
 use mathlib.Core.List.{List, [], _∷_, _++_}
-use lib.ListN.{length, getD}
+use lib.ListN.{length}
 use Rattle.promises.specs.Types.{UNUSED, Nobody, NotWanted, Refusal, Answer, Done, Made, Handed, Reaped, Joined, Blocked, Refused, Room, Fits}
 use Rattle.rules.specs.Sizes.{hartCount}
-use Rattle.rules.specs.Model.{Table, at, hartAt, is, fresh, pid, slot}
+use Rattle.rules.specs.Model.{Table, at, hartAt, is, pid, slot}
 use Rattle.rules.specs.Calls.{Outcome}
 use Rattle.rules.specs.Listing.{roomFor}
 use Rattle.rules.specs.Runs.{Call, boot, start, fork, dispatch, yield, wait, step, runBy}
 use Rattle.rules.specs.Open.{everything}
 use Rattle.rules.specs.Worked.{up}
-use Rattle.promises.specs.Lists.{clash}
-use Rattle.promises.specs.FirstOut.{handedBy, handedOut, Turn, FirstInFirstOut}
+use Rattle.promises.specs.Laws.Lists.{clash}
+use Rattle.promises.specs.FirstOut.{handedBy, handedOut, FirstInFirstOut}
 use Rattle.promises.specs.Demand3.{RefusedOnlyEmpty}
 use Rattle.promises.specs.Reached.{reached}
 

@@ -1,24 +1,22 @@
 -- First in, first out, over every run: a slot with k ahead is handed out by exactly the (k+1)th successful dispatch.
-use Prim.Native.Nat.{ℕ, zero, suc, _+_, _-_, _≤_, _<_}
+use Prim.Native.Nat.{ℕ, _+_, _-_, _≤_, _<_}
 use native.Mathlib.Omega.{arith}
 use mathlib.Core.Path.{_≡_, refl, sym, ap, _∙_}
 use mathlib.Core.Logic.{_≢_}
-use mathlib.Core.Bool.{Bool, true, false}
 use mathlib.Core.List.{List, [], _∷_, _++_, append-assoc, append-nil}
 use lib.ListN.{length, getD, length-append, List·getD-append}
 use lib.Seq.{getD-append-add}
 use lib.Dec.{eqb}
 use borrow.Author.Tests.{eq-eqb}
-use Rattle.promises.specs.Types.{Slot, RUNNABLE, Answer, Done, Made, Handed, Reaped, Joined, Blocked, Refused}
+use Rattle.promises.specs.Types.{RUNNABLE, Answer, Done, Made, Handed, Reaped, Joined, Blocked, Refused}
 use Rattle.rules.specs.Model.{Table, at, is}
-use Rattle.rules.specs.Moves.{change, hand}
+use Rattle.rules.specs.Moves.{hand}
 use Rattle.rules.specs.Calls.{Outcome, gives, moves, refuse, spent}
 use Rattle.rules.specs.Runs.{Call, step, run, runBy}
-use Rattle.promises.specs.Lists.{ind, ind-small, tally, tally-two}
-use Rattle.promises.specs.Sound.{Sound}
-use Rattle.promises.specs.Moves.{Chain}
-use Rattle.promises.specs.Kept.{chain-grows}
-use Rattle.promises.specs.Steps.{Fair, Ended, refused, spentOn, handed, granted, step-ends}
+use Rattle.promises.specs.Laws.Lists.{ind-small, tally-two}
+use Rattle.promises.specs.Order.Sound.{Sound}
+use Rattle.promises.specs.Order.Kept.{chain-grows}
+use Rattle.promises.specs.Calls.Steps.{Fair, Ended, refused, spentOn, handed, granted, step-ends}
 use Rattle.promises.specs.Reached.{step-sound, reached, reached-sound}
 
 -- the slots that answers hand out, in order: one for each successful dispatch

@@ -2,23 +2,22 @@
 use Prim.Native.Nat.{ℕ, zero, suc, _+_, _≤_, _<_}
 use native.Mathlib.Omega.{arith}
 use native.Mathlib.Nat.{not-suc-le-zero, le-of-suc-le-suc}
-use mathlib.Core.Path.{_≡_, refl, sym, ap, _∙_}
-use mathlib.Core.Bool.{true, false, not, _&&_}
+use mathlib.Core.Path.{_≡_, refl}
+use mathlib.Core.Bool.{true, false, not}
 use mathlib.Core.List.{List, [], _∷_, _++_}
 use mathlib.Core.Option.{Option, none, some}
 use lib.ListN.{length, getD}
-use lib.Dec.{eqb}
 use borrow.Author.Tests.{eqb-true, not-true}
-use Rattle.promises.specs.Types.{Pid, UNUSED, NoneSuch, Answer, Done, Made, Handed, Reaped, Joined, Blocked, Refused}
+use Rattle.promises.specs.Types.{UNUSED, NoneSuch, Answer, Done, Made, Handed, Reaped, Joined, Blocked, Refused}
 use Rattle.rules.specs.Sizes.{pidTop}
 use Rattle.rules.specs.Model.{Table, at, groupAt, free, is, fresh, pid}
 use Rattle.rules.specs.Moves.{lowest, slay, spend}
 use Rattle.rules.specs.Calls.{Outcome, gives, moves, refuse, spent, found, hasPid, killed}
 use Rattle.rules.specs.Runs.{Call, kill, step, run, runBy}
-use Rattle.promises.specs.Lists.{and-left, and-right, tally}
-use Rattle.promises.specs.Scans.{lowest-passes}
-use Rattle.promises.specs.Sound.{names, Sound}
-use Rattle.promises.specs.Steps.{Fair, Ended, refused, spentOn, handed, granted, step-ends}
+use Rattle.promises.specs.Laws.Lists.{and-left, and-right, tally}
+use Rattle.promises.specs.Laws.Scans.{lowest-passes}
+use Rattle.promises.specs.Order.Sound.{names, Sound}
+use Rattle.promises.specs.Calls.Steps.{Fair, Ended, refused, spentOn, handed, granted, step-ends}
 use Rattle.promises.specs.Reached.{step-sound, reached, reached-sound, fresh-sound}
 
 pub record Ledger (t : Table) : Type 0 where

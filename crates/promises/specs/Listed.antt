@@ -1,7 +1,7 @@
 -- The listing of every reached table: 64 * 66 bytes always suffice, and its numbers are the pids.
 use Prim.Native.Nat.{ℕ, _^_, _≤_, _<_}
 use native.Mathlib.Omega.{arith}
-use mathlib.Core.Path.{_≡_, refl}
+use mathlib.Core.Path.{_≡_}
 use mathlib.Core.List.{List}
 use lib.ListN.{length}
 use borrow.Author.Tests.{le-leb}
@@ -10,7 +10,7 @@ use Rattle.rules.specs.Sizes.{pidTop, listingTop}
 use Rattle.rules.specs.Model.{at}
 use Rattle.rules.specs.Listing.{digits, listing, fitsIn, roomFor, listedPart}
 use Rattle.rules.specs.Runs.{Call}
-use Rattle.promises.specs.Digits.{valueOf, digits-value}
+use Rattle.promises.specs.Laws.Digits.{valueOf, digits-value}
 use Rattle.promises.specs.ListingBound.{listing-short}
 use Rattle.promises.specs.Reached.{reached, reached-sound}
 

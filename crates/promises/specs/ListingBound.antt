@@ -12,7 +12,7 @@ use Rattle.promises.specs.Types.{ProcState, UNUSED, ALLOCATED, RUNNABLE,
 use Rattle.rules.specs.Sizes.{slotCount, nameSize, lineTop, listingTop}
 use Rattle.rules.specs.Model.{Table, is, free, at}
 use Rattle.rules.specs.Listing.{bytes, stateText, upToZero, lineOf, linesOf, listing, fitsIn, listedPart, listedBuffer}
-use Rattle.promises.specs.Digits.{digits-length}
+use Rattle.promises.specs.Laws.Digits.{digits-length}
 
 -- ---- the text
 state-short : (s : ProcState) → length (stateText s) ≤ 9

@@ -1,26 +1,25 @@
 -- What the Rust panics about cannot happen: each of its tests, shown of the tables on which the rules do the same.
-use Prim.Native.Nat.{ℕ, _+_, _≤_, _<_}
+use Prim.Native.Nat.{ℕ, _≤_, _<_}
 use native.Mathlib.Omega.{arith}
-use mathlib.Core.Path.{_≡_, refl, sym, ap, _∙_}
+use mathlib.Core.Path.{_≡_, refl, ap, _∙_}
 use mathlib.Core.Logic.{_⊎_, inl, inr}
 use mathlib.Core.Bool.{Bool, true, false}
-use mathlib.Core.List.{List, [], _∷_}
-use mathlib.Core.Option.{some}
+use mathlib.Core.List.{List, _∷_}
 use lib.ListN.{length, getD}
 use lib.Dec.{eqb}
 use Rattle.promises.specs.Types.{ProcState, UNUSED, ALLOCATED, RUNNABLE, RUNNING, SLEEPING, ZOMBIE, Parent, Nobody, Member, Process}
 use Rattle.rules.specs.Sizes.{slotCount}
 use Rattle.rules.specs.Model.{Table, at, free, is, isSlot, known, stateCode}
-use Rattle.rules.specs.Moves.{lowest, emptyGroup, newGroup, reparent}
+use Rattle.rules.specs.Moves.{reparent}
 use Rattle.rules.specs.Calls.{reapThreads}
 use Rattle.rules.specs.Runs.{Call}
-use Rattle.promises.specs.Lists.{clash, ind, ind-small, tally, sumTo, sum-most, sum-below, sum-counts}
-use Rattle.promises.specs.Sound.{Sound}
-use Rattle.promises.specs.States.{other, used-range, head-ready, runs-running, runs-used}
-use Rattle.promises.specs.Moves.{onCore, runs, Chain, chained}
-use Rattle.promises.specs.Kept.{chain-sound}
-use Rattle.promises.specs.CountedKept.{Empty, group-had}
-use Rattle.promises.specs.Walks.{reparent-chain, reparent-steady, reapThreads-chain, Spared, reapThreads-spared}
+use Rattle.promises.specs.Laws.Lists.{clash, ind, ind-small, tally, sumTo, sum-most, sum-below, sum-counts}
+use Rattle.promises.specs.Order.Sound.{Sound}
+use Rattle.promises.specs.Order.States.{other, used-range, head-ready, runs-running, runs-used}
+use Rattle.promises.specs.Order.Chains.{onCore, runs}
+use Rattle.promises.specs.Order.Kept.{chain-sound}
+use Rattle.promises.specs.Order.CountedKept.{Empty, group-had}
+use Rattle.promises.specs.Calls.Walks.{reparent-chain, reparent-steady, reapThreads-chain, Spared, reapThreads-spared}
 use Rattle.promises.specs.Reached.{reached, reached-sound}
 use Rattle.promises.specs.Demand3.{sound-demand}
 

@@ -1,23 +1,23 @@
 -- A fresh table is sound, each call keeps it so, and so every table that calls make of a fresh one is sound.
-use Prim.Native.Nat.{ℕ, zero, suc, _≤_}
+use Prim.Native.Nat.{ℕ, zero, suc}
 use native.Mathlib.Omega.{arith}
 use mathlib.Core.Path.{_≡_, refl, sym, ap, _∙_}
 use mathlib.Core.Bool.{true, false}
 use mathlib.Core.List.{List, [], _∷_}
-use lib.ListN.{length, getD, replicate, length-replicate}
-use Rattle.promises.specs.Types.{UNUSED, RUNNABLE, RUNNING, SLEEPING, Nobody, Process, Group}
-use Rattle.rules.specs.Sizes.{slotCount, groupCount, hartCount, pidTop, ownChannel}
-use Rattle.rules.specs.Model.{Core, Books, Table, at, groupAt, noGroup, free, is, isSlot, fresh}
+use lib.ListN.{getD, replicate, length-replicate}
+use Rattle.promises.specs.Types.{UNUSED, SLEEPING, Nobody}
+use Rattle.rules.specs.Sizes.{slotCount, groupCount, hartCount, ownChannel}
+use Rattle.rules.specs.Model.{Table, at, groupAt, noGroup, free, is, isSlot, fresh}
 use Rattle.rules.specs.Moves.{sleepsOn}
-use Rattle.rules.specs.Calls.{Outcome, gives, moves, refuse, spent}
+use Rattle.rules.specs.Calls.{Outcome, gives, moves, refuse}
 use Rattle.rules.specs.Runs.{Call, step, run, runBy}
-use Rattle.promises.specs.Lists.{and-left, clash, ind, tally, tally-none}
-use Rattle.promises.specs.Sound.{names, Queued, Numbered, Counted, Asleep, Sound}
-use Rattle.promises.specs.States.{other, free-unused}
-use Rattle.promises.specs.Moves.{onCore, spending, one}
-use Rattle.promises.specs.TidyKept.{tidy-free}
-use Rattle.promises.specs.Kept.{chain-sound, hand-sound}
-use Rattle.promises.specs.Steps.{Ended, refused, spentOn, handed, granted, step-ends}
+use Rattle.promises.specs.Laws.Lists.{and-left, clash, tally, tally-none}
+use Rattle.promises.specs.Order.Sound.{names, Queued, Numbered, Counted, Asleep, Sound}
+use Rattle.promises.specs.Order.States.{other, free-unused}
+use Rattle.promises.specs.Order.Chains.{onCore, spending, one}
+use Rattle.promises.specs.Order.TidyKept.{tidy-free}
+use Rattle.promises.specs.Order.Kept.{chain-sound, hand-sound}
+use Rattle.promises.specs.Calls.Steps.{Ended, refused, spentOn, handed, granted, step-ends}
 
 -- ---- the fresh table
 same-all : {A : Type 0} (n : ℕ) (a : A) (i : ℕ) → getD (replicate n a) i a ≡ a

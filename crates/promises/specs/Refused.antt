@@ -2,7 +2,7 @@
 use Prim.Native.Nat.{ℕ, _+_}
 use native.Mathlib.Omega.{arith}
 use mathlib.Core.Path.{_≡_, refl, subst}
-use mathlib.Core.Bool.{Bool, true, false, cond}
+use mathlib.Core.Bool.{true, cond}
 use mathlib.Core.List.{List}
 use Rattle.promises.specs.Types.{Refusal, Answer, Refused}
 use Rattle.rules.specs.Answers.{numberOf}
@@ -10,9 +10,8 @@ use Rattle.rules.specs.Model.{Table}
 use Rattle.rules.specs.Moves.{spend}
 use Rattle.rules.specs.Calls.{Outcome, gives, moves, refuse, spent}
 use Rattle.rules.specs.Runs.{Call, step}
-use Rattle.promises.specs.Sound.{Sound}
-use Rattle.promises.specs.Steps.{Fair, Ended, refused, spentOn, handed, granted, step-ends}
-use Rattle.promises.specs.Refusals.{mayGive, among, spendsPid}
+use Rattle.promises.specs.Calls.Steps.{Fair, Ended, refused, spentOn, handed, granted, step-ends}
+use Rattle.promises.specs.Calls.RefusalTable.{mayGive, among, spendsPid}
 use Rattle.promises.specs.Reached.{reached, reached-sound}
 
 -- what a call that was refused with r leaves

@@ -10,7 +10,7 @@ use Rattle.rules.specs.Model.{pid, slot}
 use Rattle.rules.specs.Listing.{bytes}
 use Rattle.rules.specs.Runs.{fork, dispatch, kill, wait, join, exit, threadExit, grow}
 use Rattle.rules.specs.Open.{everything}
-use Rattle.rules.specs.Worked.{Case, Look, up, ask, countFrom, sameInt, sameBy, sameAnswer, rightLooks, right, wrong}
+use Rattle.rules.specs.Worked.{Case, up, ask, countFrom, sameInt, sameBy, sameAnswer, rightLooks, right, wrong}
 
 -- init makes a thread, which exits with x on hart 1, and joins it
 abbrev joining : ℕ → ℤ → Case

@@ -1,12 +1,12 @@
 -- The calls, in document 01's order: for each, its refusals in order, and what it does when granted.
-use Prim.Native.Nat.{ℕ, zero, suc, _+_, _-_, _%_, _^_}
+use Prim.Native.Nat.{ℕ, _+_, _-_, _%_, _^_}
 use mathlib.Core.Bool.{Bool, true, false, not, cond, _&&_, _||_}
 use mathlib.Core.List.{List, [], _∷_, _++_}
 use mathlib.Core.Option.{Option, none, some}
 use lib.ListN.{length, take, replicate}
 use lib.Dec.{eqb, leb, ltb}
 use lib.IntN.{ℤ, pos, negsuc, _+ℤ_}
-use Rattle.rules.specs.Types.{Pid, Slot, UNUSED, ALLOCATED, ZOMBIE, Parent, Nobody, Of, Member, Alone, In, Process, Kin, Start, Wish, NotWanted, Writable, Unwritable, ThreadAsk, Mapped, Refusal, NoSuchHart, HartIdle, HartBusy, QueueEmpty, TableFull, PidsSpent, NoGroup, BadAddress, Unmapped, NoneSuch, StatusUnwritable, InitOutOfTurn, WrongWayOut, NotADevice, NameTooLong, SizeOutOfLimits, NoMemory, Answer, Done, Made, Handed, Reaped, Joined, Blocked, Refused}
+use Rattle.rules.specs.Types.{Pid, UNUSED, ALLOCATED, ZOMBIE, Parent, Nobody, Of, Member, Alone, In, Process, Wish, NotWanted, Writable, Unwritable, ThreadAsk, Mapped, Refusal, NoSuchHart, HartIdle, HartBusy, QueueEmpty, TableFull, PidsSpent, NoGroup, BadAddress, Unmapped, NoneSuch, StatusUnwritable, InitOutOfTurn, WrongWayOut, NotADevice, NameTooLong, SizeOutOfLimits, NoMemory, Answer, Done, Made, Handed, Reaped, Joined, Blocked, Refused}
 use Rattle.rules.specs.Sizes.{slotCount, hartCount, pidTop, addressTop, nameSize, pageSize, trapframe, userSp, systemSp, threadTrapframe, initSize, initTop, sizeTop, ownChannel, firstDevice}
 use Rattle.rules.specs.Model.{Core, Books, Table, at, hartAt, groupAt, is, isSlot, known, sameGroup, taken, pid, slot}
 use Rattle.rules.specs.Moves.{change, publish, hand, idle, yieldOn, sleepOn, zombieOn, sweep, lowest, wake, wakeOf, slay, reparent, newGroup, openGroup, joinGroup, resize, setInit, spend, reap}

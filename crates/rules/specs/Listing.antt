@@ -4,7 +4,7 @@ use Prim.Native.Char.{code}
 use Prim.Native.String as S
 use mathlib.Core.Bool.{Bool, true, false, cond, _&&_}
 use mathlib.Core.List.{List, [], _∷_, _++_, map}
-use lib.ListN.{length, take, drop}
+use lib.ListN.{length, drop}
 use lib.Dec.{eqb, leb, ltb}
 use Rattle.rules.specs.Types.{ProcState, UNUSED, ALLOCATED, RUNNABLE, RUNNING, SLEEPING, ZOMBIE, Process, NoRoom, Room, Fits, Short}
 use Rattle.rules.specs.Model.{Table, is}

@@ -1,7 +1,7 @@
 -- One slot, one group, the table; and the one-slot changes that calls make.
 use Prim.Native.Nat.{ℕ}
-use mathlib.Core.Bool.{Bool, true, false, _&&_}
-use mathlib.Core.List.{List, [], _∷_}
+use mathlib.Core.Bool.{Bool, true, false}
+use mathlib.Core.List.{List, []}
 use lib.ListN.{getD, replicate}
 use lib.Dec.{eqb}
 use Rattle.rules.specs.Types.{Pid, Slot, ProcState, UNUSED, ALLOCATED, RUNNABLE, RUNNING, SLEEPING, ZOMBIE, Parent, Nobody, Of, Member, Alone, In, ProcMeta, Kin, Start, Process, Group}

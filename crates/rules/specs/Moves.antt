@@ -5,7 +5,7 @@ use mathlib.Core.List.{List, [], _∷_, _++_}
 use mathlib.Core.Option.{Option, none, some}
 use lib.ListN.{set}
 use lib.Dec.{eqb, leb}
-use Rattle.rules.specs.Types.{Slot, SLEEPING, ZOMBIE, Parent, Nobody, Of, Member, Alone, In, Process, Group}
+use Rattle.rules.specs.Types.{SLEEPING, Parent, Nobody, Of, Member, Alone, In, Process, Group}
 use Rattle.rules.specs.Sizes.{slotCount, ownChannel}
 use Rattle.rules.specs.Model.{Core, Books, Table, at, groupAt, noGroup, free, is, isSlot, slot, onMeta, asRunnable, asRunning, asSleeping, asZombie, asKilled, withParent}
 

@@ -1,22 +1,22 @@
 -- What a wake leaves alone, and that nobody sleeps on its channel afterwards.
-use Prim.Native.Nat.{ℕ, zero, suc, _≤_, _<_}
+use Prim.Native.Nat.{ℕ, zero, suc, _<_}
 use native.Mathlib.Omega.{arith}
 use native.Mathlib.Nat.{not-suc-le-zero}
 use mathlib.Core.Path.{_≡_, refl, sym, ap, _∙_}
 use mathlib.Core.Logic.{_⊎_, inl, inr}
-use mathlib.Core.Bool.{Bool, true, false, _&&_}
+use mathlib.Core.Bool.{Bool, true, false}
 use mathlib.Core.List.{List}
-use lib.ListN.{length, getD, set, length-set, List·getD-eq-default}
+use lib.ListN.{length, getD, set, List·getD-eq-default}
 use lib.Seq.{getD-set-same}
 use lib.Dec.{leb, eqb}
 use borrow.Author.Tests.{leb-true, leb-false, eqb-true, eqb-false}
-use Rattle.promises.specs.Types.{UNUSED, RUNNABLE, SLEEPING, ZOMBIE, Parent, Nobody, Of, Process}
-use Rattle.rules.specs.Sizes.{slotCount, ownChannel}
-use Rattle.rules.specs.Model.{Core, at, free, is, isSlot, onMeta, asRunnable}
-use Rattle.rules.specs.Moves.{change, publish, sweep, publishIf, sleepsOn, wakeOne, wake, wakeOf}
-use Rattle.promises.specs.Lists.{and-left, clash, rel-set, set-cases}
-use Rattle.promises.specs.Scans.{sweep-keeps}
-use Rattle.promises.specs.States.{other, used-range}
+use Rattle.promises.specs.Types.{UNUSED, SLEEPING, ZOMBIE, Process}
+use Rattle.rules.specs.Sizes.{slotCount}
+use Rattle.rules.specs.Model.{Core, at, free, is, onMeta, asRunnable}
+use Rattle.rules.specs.Moves.{change, publish, sweep, publishIf, sleepsOn, wakeOne, wake}
+use Rattle.promises.specs.Laws.Lists.{and-left, clash, rel-set, set-cases}
+use Rattle.promises.specs.Laws.Scans.{sweep-keeps}
+use Rattle.promises.specs.Order.States.{other, used-range}
 
 -- to other slots y is as p was, and it sleeps on no channel on which p did not
 pub record Calm (p y : Process) : Type 0 where

@@ -1,35 +1,34 @@
 -- Every call on a sound table: refused as document 01's table has it, a dispatch, or a chain of allowed moves.
-use Prim.Native.Nat.{ℕ, zero, suc, _+_, _≤_, _<_}
+use Prim.Native.Nat.{ℕ, _+_, _≤_, _<_}
 use native.Mathlib.Omega.{arith}
-use mathlib.Core.Path.{_≡_, refl, sym, ap, _∙_}
-use mathlib.Core.Logic.{_≢_, _⊎_, inl, inr}
-use mathlib.Core.Bool.{Bool, true, false, not, cond, _&&_, _||_}
+use mathlib.Core.Path.{_≡_, refl, ap, _∙_}
+use mathlib.Core.Logic.{_≢_, inl}
+use mathlib.Core.Bool.{Bool, true, false, cond, _||_}
 use mathlib.Core.List.{List, [], _∷_, _++_}
 use mathlib.Core.Option.{Option, none, some}
-use lib.ListN.{length, getD, take, replicate, length-take, List·getD-eq-default}
+use lib.ListN.{length, getD, replicate, length-take, List·getD-eq-default}
 use lib.Seq.{getD-set-same}
-use lib.IntN.{ℤ, pos, _+ℤ_}
-use lib.Dec.{eqb, leb, ltb}
-use borrow.Author.Tests.{eqb-true, eqb-false, eq-eqb, leb-true, leb-false, ltb-false, not-true, not-false}
-use Rattle.promises.specs.Types.{Pid, UNUSED, ALLOCATED, RUNNING, ZOMBIE, Parent, Nobody, Of, Member, Alone, In, Process, Kin, Start, Wish, ThreadAsk, Mapped, Refusal, NoSuchHart, HartIdle, HartBusy, QueueEmpty, TableFull, PidsSpent, NoGroup, BadAddress, Unmapped, NoneSuch, StatusUnwritable, InitOutOfTurn, WrongWayOut, NotADevice, NameTooLong, SizeOutOfLimits, NoMemory, Answer, Done, Made, Handed, Reaped, Joined, Blocked, Refused}
-use Rattle.rules.specs.Sizes.{slotCount, hartCount, pidTop, nameSize, initSize, ownChannel, firstDevice}
+use lib.IntN.{ℤ}
+use lib.Dec.{eqb, leb}
+use borrow.Author.Tests.{eq-eqb, leb-true, leb-false, ltb-false, not-true, not-false}
+use Rattle.promises.specs.Types.{Pid, UNUSED, ALLOCATED, RUNNING, ZOMBIE, Parent, Nobody, Of, Member, In, Process, Kin, Start, Wish, ThreadAsk, Mapped, Refusal, NoSuchHart, HartIdle, HartBusy, QueueEmpty, TableFull, PidsSpent, NoGroup, BadAddress, Unmapped, NoneSuch, StatusUnwritable, InitOutOfTurn, WrongWayOut, NotADevice, NameTooLong, SizeOutOfLimits, NoMemory, Answer, Done, Made, Handed, Reaped, Joined, Blocked, Refused}
+use Rattle.rules.specs.Sizes.{hartCount, pidTop, nameSize, initSize, ownChannel, firstDevice}
 use Rattle.rules.specs.Answers.{numberOf}
 use Rattle.rules.specs.Model.{Core, Table, at, hartAt, free, taken, is, isSlot, known, sameGroup, slot}
-use Rattle.rules.specs.Moves.{change, hand, idle, yieldOn, sleepOn, zombieOn, lowest, wake, wakeOf, slay, reparent, openGroup, joinGroup, resize, setInit, spend, reap}
-use Rattle.rules.specs.Calls.{Outcome, gives, moves, refuse, spent, taking, fill, publishNew, madeIn, padded, initName, initIn, bootedIn, booted, startedAt, started, systemIn, spawnedIn, spawned, systemReturnedBy, systemReturned, childIn, forkedIn, forkedBy, forked, leaderOf, threadIn, threadedIn, threadedBy, threaded, handNext, dispatched, yielded, slept, woken, hasPid, killed, childOf, zombieChildOf, waitedFor, waited, threadOf, threadNamed, joinedTo, joinedBy, joined, threadEnded, reapThreads, departing, exitedPast, leaderExited, exitedBy, exited, threadExitedBy, threadExited, grownTo, grownBy, grown}
+use Rattle.rules.specs.Moves.{change, hand, lowest, openGroup, joinGroup, resize, setInit, spend, reap}
+use Rattle.rules.specs.Calls.{Outcome, gives, moves, refuse, spent, fill, publishNew, madeIn, padded, initName, initIn, bootedIn, booted, startedAt, started, systemIn, spawnedIn, spawned, systemReturnedBy, systemReturned, childIn, forkedIn, forkedBy, forked, leaderOf, threadIn, threadedIn, threadedBy, threaded, handNext, dispatched, yielded, slept, woken, hasPid, killed, zombieChildOf, waitedFor, waited, threadOf, threadNamed, joinedTo, joinedBy, joined, threadEnded, reapThreads, exitedPast, leaderExited, exitedBy, exited, threadExitedBy, threadExited, grownTo, grownBy, grown}
 use Rattle.rules.specs.Runs.{Call, boot, start, spawn, systemReturn, fork, thread, dispatch, yield, sleep, wakeup, kill, wait, join, threadExit, exit, grow, step}
-use Rattle.promises.specs.Lists.{and-left, and-right, or-left, or-right, clash}
-use Rattle.promises.specs.Scans.{lowest-passes, lowest-range, lowest-none}
-use Rattle.promises.specs.Sound.{isIn, names, Sound, Lives}
-use Rattle.promises.specs.States.{other, runs-running, runs-used, runs-range}
-use Rattle.promises.specs.Wakes.{wake-calm, wake-empties}
-use Rattle.promises.specs.Moves.{onCore, runs, Bed, device, waiting, joining, Farewell, Vacant, Birth, ofInit, ofSystem, ofChild, ofThread, Move, publishing, yielding, sleeping, dying, spending, filling, freeing, returning, resizing, Chain, none, more, one, chained}
-use Rattle.promises.specs.Books.{leave-pids, reap-pids}
-use Rattle.promises.specs.Kept.{chain-sound}
-use Rattle.promises.specs.Shape.{refuseIf-any, found-any, onHart-any, inGroup-any, taking-any}
-use Rattle.promises.specs.Walks.{wake-chain, slay-chain, reapThreads-chain, Spared, reapThreads-spared, Settled, reapThreads-settled}
-use Rattle.promises.specs.Exits.{thread-used, blocked-chain, leader-chain, thread-chain}
-use Rattle.promises.specs.Refusals.{mayGive, among, forks, spendsPid}
+use Rattle.promises.specs.Laws.Lists.{and-left, and-right, or-left, or-right, clash}
+use Rattle.promises.specs.Laws.Scans.{lowest-passes, lowest-none}
+use Rattle.promises.specs.Order.Sound.{isIn, names, Sound}
+use Rattle.promises.specs.Order.States.{other, runs-running, runs-used, runs-range}
+use Rattle.promises.specs.Order.Chains.{onCore, runs, device, waiting, joining, Vacant, ofInit, ofSystem, ofChild, ofThread, publishing, yielding, sleeping, spending, filling, freeing, returning, resizing, Chain, none, more, one, chained}
+use Rattle.promises.specs.Order.Books.{leave-pids, reap-pids}
+use Rattle.promises.specs.Order.Kept.{chain-sound}
+use Rattle.promises.specs.Calls.Shape.{refuseIf-any, found-any, onHart-any, inGroup-any, taking-any}
+use Rattle.promises.specs.Calls.Walks.{wake-chain, slay-chain, reapThreads-chain, Spared, reapThreads-spared, Settled, reapThreads-settled}
+use Rattle.promises.specs.Calls.Exits.{thread-used, blocked-chain, leader-chain, thread-chain}
+use Rattle.promises.specs.Calls.RefusalTable.{mayGive, among, forks, spendsPid}
 
 -- ---- how a call ends
 -- the pid counter moves by one with a pid that is answered, and else not at all

@@ -1,28 +1,24 @@
 -- The parts of calls as chains of moves: wake, kill, reparent, and exit's reaping of ZOMBIE threads.
-use Prim.Native.Nat.{ℕ, zero, suc, _+_, _≤_, _<_}
+use Prim.Native.Nat.{ℕ, zero, suc, _+_, _≤_}
 use native.Mathlib.Omega.{arith}
-use mathlib.Core.Path.{_≡_, refl, sym, ap, _∙_}
-use mathlib.Core.Logic.{_≢_, _⊎_, inl, inr}
-use mathlib.Core.Bool.{Bool, true, false, cond, _&&_}
-use mathlib.Core.List.{List}
+use mathlib.Core.Path.{_≡_, refl, ap, _∙_}
+use mathlib.Core.Logic.{_⊎_, inl, inr}
+use mathlib.Core.Bool.{Bool, true, false, cond}
 use mathlib.Core.Option.{Option, none, some}
-use lib.ListN.{length, getD, set}
+use lib.ListN.{length}
 use lib.Seq.{getD-set-other}
-use lib.Dec.{eqb}
-use borrow.Author.Tests.{eqb-true, eqb-false}
-use Rattle.promises.specs.Types.{UNUSED, RUNNING, SLEEPING, ZOMBIE, Parent, Nobody, Of, Member, Alone, In, Process, Kin}
+use Rattle.promises.specs.Types.{UNUSED, SLEEPING, ZOMBIE, Parent, Nobody, Of, Member, Kin}
 use Rattle.rules.specs.Sizes.{slotCount, ownChannel}
-use Rattle.rules.specs.Model.{Core, Table, at, hartAt, free, is, isSlot, known, sameGroup, onMeta, asKilled, withParent}
+use Rattle.rules.specs.Model.{Core, Table, at, free, is, isSlot, known, onMeta, asKilled, withParent}
 use Rattle.rules.specs.Moves.{change, publish, sweep, lowest, publishIf, sleepsOn, wakeOne, wake, wakeOf, slay, handOver, reparent, reap}
 use Rattle.rules.specs.Calls.{threadOf, reapIfZombie, reapFirst, reapThreads}
-use Rattle.promises.specs.Lists.{and-left, clash, rel-set, ind, tally, tally-set, tally-le, tally-one}
-use Rattle.promises.specs.Books.{leave-init, leave-pids}
-use Rattle.promises.specs.Scans.{lowest-passes, lowest-range, sweep-keeps}
-use Rattle.promises.specs.Sound.{Sound}
-use Rattle.promises.specs.States.{other, used-range, runs-running}
-use Rattle.promises.specs.Wakes.{Calm, calm-same, calm-then, calm-set, publish-calm, wake-calm}
-use Rattle.promises.specs.Moves.{onCore, runs, Move, publishing, marking, adopting, freeing, Chain, none, more, one, chained}
-use Rattle.promises.specs.Kept.{chain-sound, chain-steps}
+use Rattle.promises.specs.Laws.Lists.{and-left, clash, rel-set, ind, tally, tally-set, tally-le, tally-one}
+use Rattle.promises.specs.Order.Books.{leave-init, leave-pids}
+use Rattle.promises.specs.Laws.Scans.{lowest-passes, lowest-range, sweep-keeps}
+use Rattle.promises.specs.Order.Sound.{Sound}
+use Rattle.promises.specs.Order.Wakes.{Calm, calm-same, calm-then, calm-set, publish-calm, wake-calm}
+use Rattle.promises.specs.Order.Chains.{onCore, publishing, marking, adopting, freeing, Chain, none, one, chained}
+use Rattle.promises.specs.Order.Kept.{chain-steps}
 
 -- ---- wake
 publishIf-chain : (t : Table) (s : ℕ) (b : Bool) → (b ≡ true → is SLEEPING (at (t .core) s) ≡ true) → Chain t (onCore (publishIf b s) t)

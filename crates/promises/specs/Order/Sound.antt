@@ -10,7 +10,7 @@ use Rattle.rules.specs.Sizes.{slotCount, groupCount, hartCount, pidTop, nameSiz
 use Rattle.rules.specs.Model.{Core, Books, Table, at, groupAt, free, is, isSlot, known, sameGroup}
 use Rattle.rules.specs.Moves.{sleepsOn}
 use Rattle.rules.specs.Calls.{zombieChildOf, threadOf}
-use Rattle.promises.specs.Lists.{ind, tally}
+use Rattle.promises.specs.Laws.Lists.{ind, tally}
 
 -- the queue holds exactly the RUNNABLE slots, once each; the harts exactly the RUNNING ones, once each; the flag agrees
 pub record Queued (c : Core) : Type 0 where

@@ -1,15 +1,15 @@
--- The moves that calls are made of, each where it is allowed. Every call is a chain of these (Steps.antt).
+-- The moves that calls are made of, each where it is allowed. Every call is a chain of these (Calls/Steps.antt).
 use Prim.Native.Nat.{ℕ, _≤_, _<_}
 use mathlib.Core.Path.{_≡_}
 use mathlib.Core.Logic.{_≢_, _⊎_}
-use mathlib.Core.Bool.{Bool, true, false}
+use mathlib.Core.Bool.{true, false}
 use lib.ListN.{length}
-use Rattle.promises.specs.Types.{UNUSED, ALLOCATED, SLEEPING, ZOMBIE, Parent, Nobody, Of, Member, Alone, In, Process, Kin, Start}
-use Rattle.rules.specs.Sizes.{slotCount, pidTop, nameSize, ownChannel, firstDevice}
+use Rattle.promises.specs.Types.{UNUSED, ALLOCATED, SLEEPING, ZOMBIE, Parent, Nobody, Of, Alone, In, Kin, Start}
+use Rattle.rules.specs.Sizes.{pidTop, nameSize, ownChannel, firstDevice}
 use Rattle.rules.specs.Model.{Core, Books, Table, at, hartAt, is, isSlot, known, slot, taken, onMeta, asKilled, withParent}
 use Rattle.rules.specs.Moves.{change, publish, idle, yieldOn, sleepOn, zombieOn, sleepsOn, wakeOf, newGroup, openGroup, joinGroup, resize, setInit, reap}
-use Rattle.rules.specs.Calls.{zombieChildOf, threadOf, fill, spent}
-use Rattle.promises.specs.Sound.{names, Lives}
+use Rattle.rules.specs.Calls.{zombieChildOf, fill, spent}
+use Rattle.promises.specs.Order.Sound.{names, Lives}
 
 -- the scheduler's part moves, the books stay
 unfoldable pub onCore : (Core → Core) → Table → Table

@@ -1,8 +1,8 @@
 -- Each move keeps the sleepers' two rules: no ZOMBIE child under a waiting parent, and joiners sleep on live threads of their own.
-use Prim.Native.Nat.{ℕ, suc, _+_, _≤_, _<_}
+use Prim.Native.Nat.{ℕ, _≤_, _<_}
 use native.Mathlib.Omega.{arith}
 use mathlib.Core.Path.{_≡_, refl, sym, ap, _∙_}
-use mathlib.Core.Logic.{_≢_, _⊎_, inl, inr}
+use mathlib.Core.Logic.{_≢_}
 use mathlib.Core.Bool.{Bool, true, false, not, _&&_}
 use mathlib.Core.List.{List}
 use lib.ListN.{length, getD, set, length-set}
@@ -14,11 +14,11 @@ use Rattle.rules.specs.Sizes.{slotCount, ownChannel, firstDevice}
 use Rattle.rules.specs.Model.{Core, Table, at, free, taken, is, isSlot, stateCode, onMeta, asRunnable, asRunning, asSleeping, asZombie, asKilled, withParent}
 use Rattle.rules.specs.Moves.{change, publish, hand, idle, yieldOn, sleepOn, zombieOn, sleepsOn, wake, wakeOf, reap}
 use Rattle.rules.specs.Calls.{childOf, zombieChildOf, threadOf, fill, spent}
-use Rattle.promises.specs.Lists.{and-left, and-right, and-both, clash, rel-set}
-use Rattle.promises.specs.Sound.{Queued, Tidy, Lives, Asleep}
-use Rattle.promises.specs.States.{other, used-range, quiet, runs-running, runs-range}
-use Rattle.promises.specs.Wakes.{Calm, calm-same, calm-awake, calm-set, wake-calm, wake-empties}
-use Rattle.promises.specs.Moves.{onCore, runs, Bed, device, waiting, joining, Farewell, Vacant, Move, publishing, yielding, sleeping, dying, marking, adopting, spending, filling, freeing, returning, resizing}
+use Rattle.promises.specs.Laws.Lists.{and-left, and-right, and-both, clash, rel-set}
+use Rattle.promises.specs.Order.Sound.{Queued, Tidy, Lives, Asleep}
+use Rattle.promises.specs.Order.States.{other, used-range, quiet, runs-running, runs-range}
+use Rattle.promises.specs.Order.Wakes.{Calm, calm-awake, calm-set, wake-calm, wake-empties}
+use Rattle.promises.specs.Order.Chains.{onCore, runs, Bed, device, waiting, joining, Farewell, Move, publishing, yielding, sleeping, dying, marking, adopting, spending, filling, freeing, returning, resizing}
 
 -- ---- tests on a slot
 not-zombie-child : (s : ℕ) (p : Process) → is ZOMBIE p ≡ false → zombieChildOf s p ≡ false

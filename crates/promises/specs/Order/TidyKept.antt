@@ -8,17 +8,17 @@ use lib.ListN.{length, getD, set, length-replicate}
 use lib.Dec.{eqb}
 use lib.Seq.{getD-set-same, getD-set-other}
 use borrow.Author.Tests.{eq-eqb, eqb-true, eqb-false}
-use Rattle.promises.specs.Types.{UNUSED, RUNNABLE, SLEEPING, ZOMBIE, Slot, Parent, Nobody, Of, Member, Alone, In, ProcMeta, Process, Kin, Start}
+use Rattle.promises.specs.Types.{UNUSED, RUNNABLE, SLEEPING, ZOMBIE, Parent, Nobody, Of, Alone, ProcMeta, Process, Kin, Start}
 use Rattle.rules.specs.Sizes.{slotCount, nameSize, ownChannel}
 use Rattle.rules.specs.Model.{Core, Books, Table, at, free, taken, is, isSlot, known, slot, onMeta, asRunnable, asRunning, asSleeping, asZombie, asKilled, withParent}
 use Rattle.rules.specs.Moves.{change, publish, hand, idle, yieldOn, sleepOn, zombieOn, publishIf, sleepsOn, wakeOne, wake, wakeOf, openGroup, joinGroup, resize, setInit, spend, toFree, reap}
 use Rattle.rules.specs.Calls.{fill, spent}
-use Rattle.promises.specs.Lists.{and-left, clash, all-set}
-use Rattle.promises.specs.Books.{leave-init}
-use Rattle.promises.specs.Scans.{sweep-keeps}
-use Rattle.promises.specs.Sound.{isIn, Queued, First, Tidy}
-use Rattle.promises.specs.States.{other, free-unused, quiet, runs-running, runs-used}
-use Rattle.promises.specs.Moves.{onCore, Vacant, Farewell, Birth, ofInit, ofSystem, ofChild, ofThread, Move, publishing, yielding, sleeping, dying, marking, adopting, spending, filling, freeing, returning, resizing}
+use Rattle.promises.specs.Laws.Lists.{and-left, clash, all-set}
+use Rattle.promises.specs.Order.Books.{leave-init}
+use Rattle.promises.specs.Laws.Scans.{sweep-keeps}
+use Rattle.promises.specs.Order.Sound.{isIn, Queued, First, Tidy}
+use Rattle.promises.specs.Order.States.{other, quiet, runs-used}
+use Rattle.promises.specs.Order.Chains.{onCore, Vacant, Birth, ofInit, ofSystem, ofChild, ofThread, Move, publishing, yielding, sleeping, dying, marking, adopting, spending, filling, freeing, returning, resizing}
 
 abbrev AllTidy : Parent → Core → Type 0
 AllTidy init c = (s : ℕ) → Tidy init s (at c s)

@@ -1,18 +1,18 @@
 -- What a slot's state says: one excludes the others, a used slot is in range, what a hart runs is RUNNING.
-use Prim.Native.Nat.{ℕ, zero, suc, _+_, _≤_, _<_}
+use Prim.Native.Nat.{ℕ, zero, suc, _<_}
 use native.Mathlib.Omega.{arith}
 use native.Mathlib.Nat.{zero-lt-suc}
 use mathlib.Core.Path.{_≡_, refl, sym, ap, _∙_}
 use mathlib.Core.Logic.{_⊎_, inl, inr}
-use mathlib.Core.Bool.{Bool, true, false}
+use mathlib.Core.Bool.{true, false}
 use mathlib.Core.List.{List, [], _∷_}
 use lib.ListN.{length, getD}
 use lib.Dec.{eqb}
 use borrow.Author.Tests.{eqb-true, eq-eqb}
 use Rattle.promises.specs.Types.{Slot, ProcState, UNUSED, ALLOCATED, RUNNABLE, RUNNING, SLEEPING, ZOMBIE, Parent, Nobody, Of, Process}
 use Rattle.rules.specs.Model.{Core, at, hartAt, free, is, isSlot, known, slot, stateCode}
-use Rattle.promises.specs.Lists.{clash, ind, ind-true, tally, tally-set, tally-one}
-use Rattle.promises.specs.Sound.{Queued}
+use Rattle.promises.specs.Laws.Lists.{clash, ind-true, tally, tally-one}
+use Rattle.promises.specs.Order.Sound.{Queued}
 
 pub other : (a b : ProcState) (p : Process) → is a p ≡ true → is b p ≡ eqb (stateCode b) (stateCode a)
 other a b p e = ap (eqb (stateCode b)) (sym (eqb-true (stateCode a) (stateCode (p .meta .state)) e))

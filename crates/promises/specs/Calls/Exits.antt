@@ -8,15 +8,15 @@ use lib.ListN.{getD}
 use borrow.Author.Tests.{eqb-true}
 use Rattle.promises.specs.Types.{UNUSED, ZOMBIE, Parent, Nobody, Of, Process, Kin}
 use Rattle.rules.specs.Sizes.{ownChannel}
-use Rattle.rules.specs.Model.{Core, Table, at, free, is, isSlot, slot}
+use Rattle.rules.specs.Model.{Table, at, free, is, isSlot, slot}
 use Rattle.rules.specs.Moves.{sleepOn, zombieOn, sleepsOn, wake, wakeOf, slay, reparent}
 use Rattle.rules.specs.Calls.{threadOf, departing}
-use Rattle.promises.specs.Lists.{and-left, clash}
-use Rattle.promises.specs.Sound.{Sound, Lives}
-use Rattle.promises.specs.Wakes.{wake-calm, wake-empties}
-use Rattle.promises.specs.Moves.{onCore, runs, joining, Farewell, sleeping, dying, Chain, more, chained}
-use Rattle.promises.specs.Kept.{chain-sound}
-use Rattle.promises.specs.Walks.{wake-chain, wakeOf-chain, wake-harts, wakeOf-harts, wakeOf-calm, slay-chain, slay-calm, slay-harts, reparent-chain, reparent-steady}
+use Rattle.promises.specs.Laws.Lists.{and-left, clash}
+use Rattle.promises.specs.Order.Sound.{Sound, Lives}
+use Rattle.promises.specs.Order.Wakes.{wake-calm, wake-empties}
+use Rattle.promises.specs.Order.Chains.{onCore, runs, joining, Farewell, sleeping, dying, Chain, more, chained}
+use Rattle.promises.specs.Order.Kept.{chain-sound}
+use Rattle.promises.specs.Calls.Walks.{wake-chain, wakeOf-chain, wake-harts, wakeOf-harts, wakeOf-calm, slay-chain, slay-calm, slay-harts, reparent-chain, reparent-steady}
 
 -- a thread is used
 pub thread-used : (t : Table) → Sound t → (i : ℕ) → at (t .core) i .kin .thread ≡ true → is UNUSED (at (t .core) i) ≡ false

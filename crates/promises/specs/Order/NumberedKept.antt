@@ -1,20 +1,19 @@
 -- Each move keeps the pids of used slots distinct, at least 1 and at most the counter.
-use Prim.Native.Nat.{ℕ, _+_, _≤_, _<_}
+use Prim.Native.Nat.{ℕ, _≤_, _<_}
 use native.Mathlib.Omega.{arith}
 use mathlib.Core.Path.{_≡_, refl, sym, ap, _∙_, subst}
 use mathlib.Core.Logic.{_⊎_, inl, inr}
-use mathlib.Core.Bool.{Bool, true, false}
-use mathlib.Core.List.{List}
+use mathlib.Core.Bool.{false}
 use lib.ListN.{getD, set}
 use Rattle.promises.specs.Types.{Pid, UNUSED, Process}
 use Rattle.rules.specs.Model.{Core, Table, at, free, taken, is}
 use Rattle.rules.specs.Moves.{change, resize, spend, toFree, reap}
 use Rattle.rules.specs.Calls.{fill, spent}
-use Rattle.promises.specs.Books.{leave-pids, birth-pids}
-use Rattle.promises.specs.Lists.{clash, all-set, set-cases}
-use Rattle.promises.specs.Sound.{Numbered}
-use Rattle.promises.specs.States.{free-unused}
-use Rattle.promises.specs.Alike.{Alikes, View, stirs, spends, fills, frees, resizes}
+use Rattle.promises.specs.Order.Books.{leave-pids, birth-pids}
+use Rattle.promises.specs.Laws.Lists.{clash, all-set, set-cases}
+use Rattle.promises.specs.Order.Sound.{Numbered}
+use Rattle.promises.specs.Order.States.{free-unused}
+use Rattle.promises.specs.Order.Alike.{Alikes, View, stirs, spends, fills, frees, resizes}
 
 numbered-alike : (c d : Core) (n : ℕ) → Alikes (c .slots) (d .slots) → Numbered c n → Numbered d n
 numbered-alike c d n k w = record {

@@ -6,7 +6,7 @@ use mathlib.Core.Logic.{_≢_}
 use mathlib.Core.Bool.{Bool, true, false, cond}
 use mathlib.Core.List.{List, [], _∷_}
 use mathlib.Core.Option.{Option, none, some}
-use lib.ListN.{length, getD, set, length-set, List·getD-eq-default}
+use lib.ListN.{length, set, length-set, List·getD-eq-default}
 use lib.Seq.{getD-set-same, getD-set-other}
 use lib.Dec.{eqb, leb}
 use borrow.Author.Tests.{eqb-true, eqb-false, eq-eqb, ne-eqb, leb-true, leb-false}
@@ -15,12 +15,12 @@ use Rattle.rules.specs.Sizes.{slotCount, groupCount}
 use Rattle.rules.specs.Model.{Core, Books, Table, at, groupAt, noGroup, free, taken, is, sameGroup}
 use Rattle.rules.specs.Moves.{change, lowest, setGroup, emptyGroup, orZero, newGroup, openGroup, joinGroup, less, leaveGroup, resize, setInit, spend, toFree, reap}
 use Rattle.rules.specs.Calls.{fill, spent}
-use Rattle.promises.specs.Lists.{ind, tally, tally-set, tally-same, tally-lt, tally-one, sumTo, sum-zero, sum-add, sum-same, sum-least, sum-once}
-use Rattle.promises.specs.Scans.{lowest-passes, lowest-range, lowest-none}
-use Rattle.promises.specs.Sound.{isIn, names, Counted}
-use Rattle.promises.specs.States.{used-range}
-use Rattle.promises.specs.Moves.{Vacant, Birth, ofInit, ofSystem, ofChild, ofThread}
-use Rattle.promises.specs.Alike.{Alikes, View, stirs, spends, fills, frees, resizes}
+use Rattle.promises.specs.Laws.Lists.{ind, tally, tally-set, tally-same, tally-lt, tally-one, sumTo, sum-zero, sum-add, sum-same, sum-least, sum-once}
+use Rattle.promises.specs.Laws.Scans.{lowest-passes, lowest-range, lowest-none}
+use Rattle.promises.specs.Order.Sound.{isIn, names, Counted}
+use Rattle.promises.specs.Order.States.{used-range}
+use Rattle.promises.specs.Order.Chains.{Birth, ofInit, ofSystem, ofChild, ofThread}
+use Rattle.promises.specs.Order.Alike.{Alikes, View, stirs, spends, fills, frees, resizes}
 
 free-alone : free .kin .group ≡ Alone
 unfolding free

@@ -1,5 +1,5 @@
 -- How calls come to refuse, for ANY property of the outcome: shown once of the refusal, and then only of what is granted.
-use Prim.Native.Nat.{ℕ, _+_, _<_}
+use Prim.Native.Nat.{ℕ, _<_}
 use mathlib.Core.Path.{_≡_, refl}
 use mathlib.Core.Bool.{Bool, true, false}
 use mathlib.Core.Option.{Option, none, some}
@@ -8,11 +8,11 @@ use lib.Dec.{leb}
 use borrow.Author.Tests.{leb-false}
 use Rattle.promises.specs.Types.{UNUSED, Parent, Nobody, Of, Member, Alone, In, Refusal, NoSuchHart, HartIdle, TableFull, PidsSpent, NoGroup}
 use Rattle.rules.specs.Sizes.{hartCount, pidTop}
-use Rattle.rules.specs.Model.{Table, at, hartAt, free, is, slot}
+use Rattle.rules.specs.Model.{Table, at, hartAt, free, is}
 use Rattle.rules.specs.Moves.{lowest}
 use Rattle.rules.specs.Calls.{Outcome, refuse, refuseIf, found, runner, onHart, member, inGroup, spent, taking}
-use Rattle.promises.specs.Scans.{lowest-passes, lowest-range}
-use Rattle.promises.specs.Moves.{runs}
+use Rattle.promises.specs.Laws.Scans.{lowest-passes, lowest-range}
+use Rattle.promises.specs.Order.Chains.{runs}
 
 module _ (P : Outcome → Type 0) where
   pub refuseIf-any : (x : Bool) (r : Refusal) (t : Table) (o : Outcome) → P (refuse r t) → (x ≡ false → P o) → P (refuseIf x r t o)

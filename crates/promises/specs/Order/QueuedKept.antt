@@ -1,22 +1,22 @@
 -- Each move keeps queue, harts and flags in step with the states.
-use Prim.Native.Nat.{ℕ, _+_, _≤_, _<_}
+use Prim.Native.Nat.{ℕ, _+_, _<_}
 use native.Mathlib.Omega.{arith}
-use mathlib.Core.Path.{_≡_, refl, sym, ap, _∙_, subst}
+use mathlib.Core.Path.{_≡_, refl, sym, ap, _∙_}
 use mathlib.Core.Logic.{inr}
 use mathlib.Core.Bool.{Bool, true, false}
-use mathlib.Core.List.{List, [], _∷_, _++_}
+use mathlib.Core.List.{List, _∷_}
 use lib.ListN.{length, getD, set, length-set}
 use lib.Dec.{eqb}
-use Rattle.promises.specs.Types.{UNUSED, ALLOCATED, RUNNABLE, RUNNING, SLEEPING, ZOMBIE, Parent, Nobody, Of, Process, Kin, Start}
+use Rattle.promises.specs.Types.{UNUSED, RUNNABLE, RUNNING, ZOMBIE, Parent, Nobody, Of, Process}
 use Rattle.rules.specs.Sizes.{slotCount, ownChannel}
 use Rattle.rules.specs.Model.{Core, Table, at, hartAt, free, taken, is, isSlot, slot, onMeta, asRunnable, asRunning, asSleeping, asZombie, asKilled, withParent}
-use Rattle.rules.specs.Moves.{change, publish, hand, idle, yieldOn, sleepOn, zombieOn, sweep, publishIf, sleepsOn, wakeOne, wake, wakeOf, toFree, reap}
+use Rattle.rules.specs.Moves.{change, publish, hand, idle, yieldOn, sleepOn, zombieOn, publishIf, sleepsOn, wakeOne, wake, wakeOf, toFree, reap}
 use Rattle.rules.specs.Calls.{fill, spent}
-use Rattle.promises.specs.Lists.{and-left, ind, tally, tally-append, tally-set, delta, all-set, rel-set}
-use Rattle.promises.specs.Scans.{sweep-keeps}
-use Rattle.promises.specs.Sound.{Queued}
-use Rattle.promises.specs.States.{other, used-range, Quiet, quiet, hart-range, runs-running, runs-used, runs-range, head-ready}
-use Rattle.promises.specs.Moves.{onCore, runs, Vacant, Move, publishing, yielding, sleeping, dying, marking, adopting, spending, filling, freeing, returning, resizing}
+use Rattle.promises.specs.Laws.Lists.{and-left, ind, tally, tally-append, tally-set, delta, all-set, rel-set}
+use Rattle.promises.specs.Laws.Scans.{sweep-keeps}
+use Rattle.promises.specs.Order.Sound.{Queued}
+use Rattle.promises.specs.Order.States.{other, used-range, Quiet, quiet, hart-range, runs-running, runs-range, head-ready}
+use Rattle.promises.specs.Order.Chains.{onCore, Move, publishing, yielding, sleeping, dying, marking, adopting, spending, filling, freeing, returning, resizing}
 
 abbrev flagged : ℕ → Process → Type 0
 flagged s p = p .meta .queued ≡ is RUNNABLE p

@@ -3,22 +3,21 @@ use Prim.Native.Nat.{ℕ, zero, suc, _<_}
 use mathlib.Core.Path.{_≡_, refl, sym, ap, _∙_, subst}
 use mathlib.Core.Bool.{Bool, true, false}
 use mathlib.Core.List.{List, [], _∷_, _++_, append-assoc, append-nil}
-use lib.ListN.{length}
 use Rattle.promises.specs.Types.{RUNNABLE, Parent, Nobody, Of}
 use Rattle.rules.specs.Sizes.{slotCount, hartCount, ownChannel}
 use Rattle.rules.specs.Model.{Core, Table, at, hartAt, is}
 use Rattle.rules.specs.Moves.{change, publish, hand, idle, yieldOn, sleepOn, zombieOn, publishIf, sleepsOn, wakeOne, wake, wakeOf, reap}
 use Rattle.rules.specs.Calls.{fill, spent}
-use Rattle.promises.specs.Scans.{sweep-keeps}
-use Rattle.promises.specs.Sound.{Sound}
-use Rattle.promises.specs.States.{head-ready}
-use Rattle.promises.specs.Moves.{onCore, Move, publishing, yielding, sleeping, dying, marking, adopting, spending, filling, freeing, returning, resizing, Chain, none, more, chained}
-use Rattle.promises.specs.Alike.{view, hand-view}
-use Rattle.promises.specs.QueuedKept.{move-queued, hand-queued}
-use Rattle.promises.specs.NumberedKept.{view-numbered}
-use Rattle.promises.specs.CountedKept.{view-counted}
-use Rattle.promises.specs.TidyKept.{move-tidy, hand-tidy}
-use Rattle.promises.specs.AsleepKept.{move-asleep, hand-asleep}
+use Rattle.promises.specs.Laws.Scans.{sweep-keeps}
+use Rattle.promises.specs.Order.Sound.{Sound}
+use Rattle.promises.specs.Order.States.{head-ready}
+use Rattle.promises.specs.Order.Chains.{onCore, Move, publishing, yielding, sleeping, dying, marking, adopting, spending, filling, freeing, returning, resizing, Chain, none, more, chained}
+use Rattle.promises.specs.Order.Alike.{view, hand-view}
+use Rattle.promises.specs.Order.QueuedKept.{move-queued, hand-queued}
+use Rattle.promises.specs.Order.NumberedKept.{view-numbered}
+use Rattle.promises.specs.Order.CountedKept.{view-counted}
+use Rattle.promises.specs.Order.TidyKept.{move-tidy, hand-tidy}
+use Rattle.promises.specs.Order.AsleepKept.{move-asleep, hand-asleep}
 
 pub move-sound : {t u : Table} → Sound t → Move t u → Sound u
 move-sound w m = record {

@@ -4,7 +4,7 @@ use mathlib.Core.Path.{_≡_, refl}
 use Rattle.promises.specs.Types.{Member, Alone, In, Kin}
 use Rattle.rules.specs.Model.{Books, Table, at}
 use Rattle.rules.specs.Moves.{leaveGroup, openGroup, joinGroup, setInit, reap}
-use Rattle.promises.specs.Moves.{Birth, ofInit, ofSystem, ofChild, ofThread}
+use Rattle.promises.specs.Order.Chains.{Birth, ofInit, ofSystem, ofChild, ofThread}
 
 pub leave-init : (m : Member) (b : Books) → leaveGroup m b .init ≡ b .init
 unfolding leaveGroup

@@ -1,0 +1,6 @@
+-- Every call as refusals in order and a chain of moves.
+pub mod Shape
+pub mod Walks
+pub mod Exits
+pub mod RefusalTable
+pub mod Steps

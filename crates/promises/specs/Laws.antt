@@ -1,0 +1,5 @@
+-- Laws that know nothing of the table: lists and counts, scans, the ring, decimal digits.
+pub mod Lists
+pub mod Scans
+pub mod Ring
+pub mod Digits

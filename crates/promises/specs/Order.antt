@@ -1,0 +1,13 @@
+-- The order of a table, the moves that calls are made of, and that each move keeps the order.
+pub mod Sound
+pub mod States
+pub mod Wakes
+pub mod Chains
+pub mod Books
+pub mod Alike
+pub mod QueuedKept
+pub mod NumberedKept
+pub mod CountedKept
+pub mod TidyKept
+pub mod AsleepKept
+pub mod Kept
