@@ -7,7 +7,7 @@ use mathlib.Core.List.{List, [], _∷_}
 use lib.ListN.{getD, replicate, length-replicate}
 use Rattle.promises.specs.Types.{UNUSED, SLEEPING, Nobody}
 use Rattle.rules.specs.Sizes.{slotCount, groupCount, hartCount, ownChannel}
-use Rattle.rules.specs.Model.{Table, at, groupAt, noGroup, free, is, isSlot, fresh}
+use Rattle.rules.specs.Model.{Table, at, noGroup, free, is, isSlot, fresh}
 use Rattle.rules.specs.Moves.{sleepsOn}
 use Rattle.rules.specs.Calls.{Outcome, gives, moves, refuse}
 use Rattle.rules.specs.Runs.{Call, step, run, runBy}
@@ -28,10 +28,6 @@ same-all (suc n) a (suc i) = same-all n a i
 fresh-at : (s : ℕ) → at (fresh .core) s ≡ free
 unfolding fresh
 fresh-at s = same-all slotCount free s
-
-fresh-group : (g : ℕ) → groupAt (fresh .books) g ≡ noGroup
-unfolding fresh
-fresh-group g = same-all groupCount noGroup g
 
 fresh-queued : Queued (fresh .core)
 unfolding fresh tally free
