@@ -78,6 +78,11 @@ reads-snoc n p h zero = let e : h + 0 ≡ h = omega arith in rw e
 reads-snoc n p h (suc k) =
     let e : h + suc k ≡ h + 1 + k = omega arith in rw e (ap (λ (l : List ℕ). getD p (h % n) 0 ∷ l) (reads-snoc n p (h + 1) k))
 
+-- as many as the counts say, in order or not
+pub queue-count : (n w : ℕ) (r : Ring) → length (queueOf n w r) ≡ lengthOf w r
+unfolding queueOf
+queue-count n w r = length-reads n (r .places) (r .head) (lengthOf w r)
+
 -- going on by less than a round never comes to the same place
 elsewhere : (n a d : ℕ) → 0 < d → d < n → (a + d) % n ≢ a % n
 elsewhere n a d l m e =
@@ -95,8 +100,7 @@ module _ (n w : ℕ) (f : Rounds n w) where
         rw (o .ends, mod-add-mod, e, add-mod-right) (mod-eq-of-lt (omega arith))
 
     pub queue-length : length (queueOf n w r) ≡ k
-    unfolding queueOf
-    queue-length = length-reads n (r .places) (r .head) (lengthOf w r) ∙ holds-length
+    queue-length = queue-count n w r ∙ holds-length
 
     pub queue-at : (i : ℕ) → i < k → getD (queueOf n w r) i 0 ≡ getD (r .places) ((r .head + i) % n) 0
     unfolding queueOf

@@ -1,0 +1,46 @@
+-- What the accessors do to a table.
+use Prim.Native.Nat.{ℕ, _<_}
+use mathlib.Core.Path.{_≡_}
+use mathlib.Core.List.{List, [], _∷_, _++_}
+use lib.ListN.{set}
+use Rattle.rules.specs.declared.Parent.{Parent}
+use Rattle.rules.specs.declared.ProcMeta.{ProcMeta}
+use Rattle.rules.specs.declared.Kin.{Kin}
+use Rattle.rules.specs.declared.Start.{Start}
+use Rattle.rules.specs.declared.Process.{Process}
+use Rattle.rules.specs.Sizes.{slotCount}
+use Rattle.rules.specs.Model.{Core, Books, Table}
+use Rattle.promises.specs.Order.Chains.{onCore}
+
+unfoldable pub onBooks : (Books → Books) → Table → Table
+onBooks f t = record { core = t .core; books = f (t .books) }
+
+abbrev pub withMeta : ProcMeta → Process → Process
+withMeta m p = record { meta = m; kin = p .kin; start = p .start }
+
+abbrev pub withKin : Kin → Process → Process
+withKin k p = record { meta = p .meta; kin = k; start = p .start }
+
+abbrev pub withStart : Start → Process → Process
+withStart b p = record { meta = p .meta; kin = p .kin; start = b }
+
+unfoldable pub withHart : ℕ → Parent → Core → Core
+withHart h p c = record { slots = c .slots; queue = c .queue; harts = set (c .harts) h p }
+
+unfoldable pub withQueue : List ℕ → Core → Core
+withQueue q c = record { slots = c .slots; queue = q; harts = c .harts }
+
+unfoldable pub enqueue : ℕ → Core → Core
+enqueue s c = withQueue (c .queue ++ (s ∷ [])) c
+
+unfoldable pub withInit : Parent → Books → Books
+withInit p b = record { groups = b .groups; init = p; pids = b .pids }
+
+unfoldable pub withPids : ℕ → Books → Books
+withPids n b = record { groups = b .groups; init = b .init; pids = n }
+
+-- the head s left the queue of t, and nothing else changed
+pub record Popped (t : Table) (s : ℕ) (u : Table) : Type 0 where
+  pub head : t .core .queue ≡ s ∷ u .core .queue
+  pub rest : u ≡ onCore (withQueue (u .core .queue)) t
+  pub range : s < slotCount

@@ -1,0 +1,72 @@
+// The process table in place: an array of words, a column for each field. Contracts speak of the table that the words hold,
+// `tableOf`; where a word stands is known in this crate alone.
+ghost use mathlib.Core.Path.{_≡_};
+ghost use Prim.Native.Nat.{_+_, _<_};
+ghost use lib.ListN.{length, set};
+ghost use Rattle.rules.specs.Sizes.{slotCount, hartCount};
+ghost use Rattle.rules.specs.Model.{fresh};
+ghost use Rattle.promises.specs.Order.Sound.{Sound};
+ghost use Rattle.words.specs.Layout.{columns, columnAt, cellAt, wordCount, column, cell};
+ghost use Rattle.words.specs.Reading.{tableOf};
+
+pub mod word; // what one word means
+pub mod slot; // a slot's three parts
+pub mod book; // groups, harts, init, the pid counter
+pub mod queue; // the run queue
+
+pub struct Table {
+    pub words: [u64; Table::WORDS],
+}
+
+impl Table {
+    pub const SLOTS: usize = 64;
+
+    pub const HARTS: usize = 8;
+    // 21 columns, 4 cells, and a cell for each hart
+    pub const WORDS: usize = 21 * Table::SLOTS + 4 + Table::HARTS;
+
+    pub fn new() -> Self
+        ensures { λ r. ⌜ (tableOf (r .words) ≡ fresh) × Sound (tableOf (r .words)) ⌝ }
+    {
+        Table {
+            words: [0; Table::WORDS],
+        }
+    }
+}
+
+// The word in column f of slot s, and cell k.
+fn get(t: &[u64; Table::WORDS], f: usize, s: usize) -> u64
+    requires { ⌜ (f < columns) × (s < slotCount) ⌝ }
+    ensures { λ r. ⌜ r ≡ column (now (t .entry)) f s ⌝ }
+{
+    t[f * Table::SLOTS + s]
+}
+
+fn get_cell(t: &[u64; Table::WORDS], k: usize) -> u64
+    requires { ⌜ k < 4 + hartCount ⌝ }
+    ensures { λ r. ⌜ r ≡ cell (now (t .entry)) k ⌝ }
+{
+    t[21 * Table::SLOTS + k]
+}
+
+// A store goes by way of a slice: that tells the caller how long its array is.
+fn store(w: &mut [u64], k: usize, n: u64)
+    requires { ⌜ k < length (now w) ⌝ }
+    ensures { λ _. ⌜ now (w .exit) ≡ set (now (w .entry)) k n ⌝ }
+{
+    w[k] = n;
+}
+
+fn put(t: &mut [u64; Table::WORDS], f: usize, s: usize, n: u64)
+    requires { ⌜ (f < columns) × (s < slotCount) ⌝ }
+    ensures { λ _. ⌜ (now (t .exit) ≡ set (now (t .entry)) (columnAt f s) n) × (length (now (t .entry)) ≡ wordCount) ⌝ }
+{
+    store(t, f * Table::SLOTS + s, n);
+}
+
+fn put_cell(t: &mut [u64; Table::WORDS], k: usize, n: u64)
+    requires { ⌜ k < 4 + hartCount ⌝ }
+    ensures { λ _. ⌜ (now (t .exit) ≡ set (now (t .entry)) (cellAt k) n) × (length (now (t .entry)) ≡ wordCount) ⌝ }
+{
+    store(t, 21 * Table::SLOTS + k, n);
+}
