@@ -14,8 +14,9 @@ use Rattle.rules.specs.Model.{Core, Table, at, hartAt, is, isSlot, slot}
 use Rattle.rules.specs.Moves.{hand, sleepsOn}
 use Rattle.rules.specs.Calls.{Outcome, gives, moves, refuseIf, handNext, dispatched, childOf, zombieChildOf}
 use Rattle.rules.specs.Runs.{Call, dispatch, step}
-use Rattle.promises.specs.Laws.Lists.{and-both, clash, ind, ind-small, ind-true, tally-one, tally-two, Stands, tally-stands}
+use Rattle.promises.specs.Laws.Lists.{and-both, clash, ind, ind-small, tally-two, Stands, tally-stands}
 use Rattle.promises.specs.Order.Sound.{Sound, Lives}
+use Rattle.promises.specs.Order.Room.{queued-runnable}
 use Rattle.promises.specs.Order.States.{runs-running}
 use Rattle.promises.specs.FirstOut.{queued-once}
 use Rattle.promises.specs.Reached.{reached, reached-sound}
@@ -45,7 +46,7 @@ pub sound-demand : (t : Table) → Sound t → Demand3 t
 unfolding zombieChildOf childOf
 sound-demand t w = record {
   runnable-queued = λ s e. tally-stands (eqb s) q 0 (omega (arith, w .queued .queue s, ap ind e));
-  queued-runnable = λ i r. ind-true _ (omega (arith, tally-one (eqb (getD q i 0)) q 0 i r (eq-eqb (getD q i 0) _ refl), w .queued .queue (getD q i 0)));
+  queued-runnable = queued-runnable (t .core) (w .queued);
   once-queued = queued-once t w;
   running-held = λ s e. tally-stands (isSlot s) (t .core .harts) Nobody (omega (arith, w .queued .harts s, ap ind e));
   hart-count = w .queued .wide;

@@ -1,6 +1,5 @@
 -- What the Rust panics about cannot happen: each of its tests, shown of the tables on which the rules do the same.
 use Prim.Native.Nat.{ℕ, _≤_, _<_}
-use native.Mathlib.Omega.{arith}
 use mathlib.Core.Path.{_≡_, refl, ap, _∙_}
 use mathlib.Core.Logic.{_⊎_, inl, inr}
 use mathlib.Core.Bool.{Bool, true, false}
@@ -13,38 +12,21 @@ use Rattle.rules.specs.Model.{Table, at, free, is, isSlot, known, stateCode}
 use Rattle.rules.specs.Moves.{reparent}
 use Rattle.rules.specs.Calls.{reapThreads}
 use Rattle.rules.specs.Runs.{Call}
-use Rattle.promises.specs.Laws.Lists.{clash, ind, ind-small, tally, sumTo, sum-most, sum-below, sum-counts}
+use Rattle.promises.specs.Laws.Lists.{clash, ind, tally}
 use Rattle.promises.specs.Order.Sound.{Sound}
-use Rattle.promises.specs.Order.States.{other, used-range, head-ready, runs-running, runs-used}
+use Rattle.promises.specs.Order.States.{other, head-ready, runs-running, runs-used}
+use Rattle.promises.specs.Order.Room.{queue-fits, queue-room}
 use Rattle.promises.specs.Order.Chains.{onCore, runs}
 use Rattle.promises.specs.Order.Kept.{chain-sound}
 use Rattle.promises.specs.Order.CountedKept.{Empty, group-had}
 use Rattle.promises.specs.Calls.Walks.{reparent-chain, reparent-steady, reapThreads-chain, Spared, reapThreads-spared}
 use Rattle.promises.specs.Reached.{reached, reached-sound}
-use Rattle.promises.specs.Demand3.{sound-demand}
 
 module _ (t : Table) (w : Sound t) where
-  counts-small : (s : ℕ) → tally (eqb s) (t .core .queue) ≤ 1
-  counts-small s = omega (arith, w .queued .queue s, ind-small (is RUNNABLE (at (t .core) s)))
-
-  queue-sum : sumTo (λ s. tally (eqb s) (t .core .queue)) slotCount ≡ length (t .core .queue)
-  queue-sum = sum-counts slotCount (t .core .queue) (λ i l. let s : ℕ = getD (t .core .queue) i 0 in
-      omega (arith, w .queued .tall, used-range (t .core .slots) s (other RUNNABLE UNUSED (at (t .core) s) (sound-demand t w .queued-runnable i l))))
-
-  -- "run queue exceeds process table capacity"
-  queue-fits : length (t .core .queue) ≤ slotCount
-  queue-fits = omega (arith, queue-sum, sum-most (λ s. tally (eqb s) (t .core .queue)) counts-small slotCount)
-
   -- "process is already on the run queue", "cannot enqueue process": a slot in a state from which it may be published is unmarked, not queued, and finds room
   publishable : (s : ℕ) → is UNUSED (at (t .core) s) ≡ false → is RUNNABLE (at (t .core) s) ≡ false
       → (at (t .core) s .meta .queued ≡ false) × (tally (eqb s) (t .core .queue) ≡ 0) × (length (t .core .queue) < slotCount)
-  publishable s u r = (w .queued .flag s ∙ r, absent, omega (arith, queue-sum, sum-below (λ i. tally (eqb i) (t .core .queue)) counts-small slotCount s range absent))
-    where
-      absent : tally (eqb s) (t .core .queue) ≡ 0
-      absent = w .queued .queue s ∙ ap ind r
-
-      range : s < slotCount
-      range = omega (arith, w .queued .tall, used-range (t .core .slots) s u)
+  publishable s u r = (w .queued .flag s ∙ r, w .queued .queue s ∙ ap ind r, queue-room (t .core) (w .queued) s u r)
 
   publish-allowed : (s : ℕ) (a : ProcState) → is a (at (t .core) s) ≡ true → a ≡ ALLOCATED ⊎ (a ≡ RUNNING ⊎ a ≡ SLEEPING)
       → (at (t .core) s .meta .queued ≡ false) × (tally (eqb s) (t .core .queue) ≡ 0) × (length (t .core .queue) < slotCount)
@@ -120,7 +102,7 @@ pub record NoPanic (t : Table) : Type 0 where
 
 pub no-panic : (cs : List Call) → NoPanic (reached cs)
 no-panic cs = let t = reached cs in let w = reached-sound cs in record {
-  fits = queue-fits t w;
+  fits = queue-fits (t .core) (w .queued);
   publishes = publish-allowed t w;
   dispatches = head-marked t w;
   groups = group-found t w;
