@@ -5,3 +5,4 @@ pub mod SlotLaws
 pub mod BookLaws
 pub mod QueueLaws
 pub mod Fresh
+pub mod Facts
