@@ -3,14 +3,14 @@ use Prim.Native.Nat.{ℕ, _+_, _<_}
 use native.Mathlib.Omega.{arith}
 use mathlib.Core.Path.{_≡_, refl, sym, ap, _∙_}
 use mathlib.Core.Logic.{inr}
-use mathlib.Core.Bool.{Bool, true, false}
+use mathlib.Core.Bool.{Bool, true, false, cond}
 use mathlib.Core.List.{List, _∷_}
 use lib.ListN.{length, getD, set, length-set}
 use lib.Dec.{eqb}
 use Rattle.promises.specs.Types.{UNUSED, RUNNABLE, RUNNING, ZOMBIE, Parent, Nobody, Of, Process}
 use Rattle.rules.specs.Sizes.{slotCount, ownChannel}
 use Rattle.rules.specs.Model.{Core, Table, at, hartAt, free, taken, is, isSlot, slot, onMeta, asRunnable, asRunning, asSleeping, asZombie, asKilled, withParent}
-use Rattle.rules.specs.Moves.{change, publish, hand, idle, yieldOn, sleepOn, zombieOn, publishIf, sleepsOn, wakeOne, wake, wakeOf, toFree, reap}
+use Rattle.rules.specs.Moves.{handOver, change, publish, hand, idle, yieldOn, sleepOn, zombieOn, publishIf, sleepsOn, wakeOne, wake, wakeOf, toFree, reap}
 use Rattle.rules.specs.Calls.{fill, spent}
 use Rattle.promises.specs.Laws.Lists.{and-left, ind, tally, tally-append, tally-set, delta, all-set, rel-set}
 use Rattle.promises.specs.Laws.Scans.{sweep-keeps}
@@ -64,18 +64,34 @@ publish-queued s c v k = record {
     range : s < length (c .slots)
     range = used-range (c .slots) s (k .used)
 
-pub wake-queued : (ch : ℕ) (c : Core) → Queued c → Queued (wake ch c)
-unfolding wake wakeOne publishIf
-wake-queued ch c v = sweep-keeps Queued (wakeOne ch) (λ s d w. go s d w (sleepsOn ch (at d s)) refl) slotCount c v
+pub wakeOne-queued : (ch s : ℕ) (c : Core) → Queued c → Queued (wakeOne ch s c)
+unfolding wakeOne publishIf
+wakeOne-queued ch s c v = go (sleepsOn ch (at c s)) refl
   where
-    go : (s : ℕ) (d : Core) → Queued d → (b : Bool) → sleepsOn ch (at d s) ≡ b → Queued (publishIf b s d)
-    go s d w true e = publish-queued s d w (quiet (at d s) (inr (and-left _ _ e)))
-    go s d w false e = w
+    go : (b : Bool) → sleepsOn ch (at c s) ≡ b → Queued (publishIf b s c)
+    go true e = publish-queued s c v (quiet (at c s) (inr (and-left _ _ e)))
+    go false e = v
 
-wakeOf-queued : (p : Parent) (c : Core) → Queued c → Queued (wakeOf p c)
+pub wake-queued : (ch : ℕ) (c : Core) → Queued c → Queued (wake ch c)
+unfolding wake
+wake-queued ch c v = sweep-keeps Queued (wakeOne ch) (wakeOne-queued ch) slotCount c v
+
+pub wakeOf-queued : (p : Parent) (c : Core) → Queued c → Queued (wakeOf p c)
 unfolding wakeOf
 wakeOf-queued Nobody c v = v
 wakeOf-queued (Of s) c v = wake-queued (ownChannel (s .0)) c v
+
+-- a slot gets another parent
+pub parent-queued : (q : Parent) (i : ℕ) (c : Core) → Queued c → Queued (change (withParent q) i c)
+parent-queued q i c v = change-queued (withParent q) i c v (stays (at c i) (withParent q (at c i)) refl refl refl (v .flag i))
+
+pub handOver-queued : (init : Parent) (s i : ℕ) (c : Core) → Queued c → Queued (handOver init s i c)
+unfolding handOver
+handOver-queued init s i c v = go (isSlot s (at c i .kin .parent))
+  where
+    go : (b : Bool) → Queued (cond b (wakeOf init (change (withParent init) i c)) c)
+    go true = wakeOf-queued init _ (parent-queued init i c v)
+    go false = v
 
 -- the caller s leaves hart h
 module _ (h s : ℕ) (c : Core) (v : Queued c) (e : hartAt c h ≡ Of (slot s)) where
@@ -158,7 +174,7 @@ move-queued v (sleeping {t} h s ch e _) = leave-queued h s (t .core) v e (onMeta
 move-queued v (dying {t} h s x e _) = leave-queued h s (t .core) v e (onMeta (asZombie x)) refl refl (unflagged h s (t .core) v e)
 move-queued v (marking {t} s _) = change-queued (onMeta asKilled) s (t .core) v (stays (at (t .core) s) _ refl refl refl (v .flag s))
 move-queued v (adopting {t} i _) =
-    wakeOf-queued (t .books .init) _ (change-queued (withParent (t .books .init)) i (t .core) v (stays (at (t .core) i) _ refl refl refl (v .flag i)))
+    wakeOf-queued (t .books .init) _ (parent-queued (t .books .init) i (t .core) v)
 move-queued v (spending _) = v
 move-queued v (filling {t} s k b d w _ _) = change-queued (λ _. taken (t .books .pids) k b) s (t .core) v
     (quieter (at (t .core) s) _ (other UNUSED RUNNABLE (at (t .core) s) (w .unused)) (other UNUSED RUNNING (at (t .core) s) (w .unused)) refl refl refl)
