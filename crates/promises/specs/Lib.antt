@@ -3,6 +3,7 @@ pub mod Laws
 pub mod Order
 pub mod Calls
 pub mod Reached
+pub mod Did
 pub mod FirstOut
 pub mod Demand3
 pub mod Panics

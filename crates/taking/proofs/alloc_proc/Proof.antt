@@ -1,0 +1,61 @@
+use Rattle.taking.proofs.TakeLaws.{take-spent, take-full, take-slot, unused-found}
+use Prim.Native.Nat.{ℕ, _+_}
+use mathlib.Core.Path.{ap, subst, _∙_}
+use Rattle.words.specs.Reading.{tableOf}
+use Rattle.rules.specs.Sizes.{pidTop}
+use Rattle.words.specs.Effects.{onBooks, withPids}
+use Rattle.scans.specs.declared.Found.the-variants.{At, Nothing}
+use Rattle.scans.specs.Tests.{InRange}
+use borrow.Author.Needs.{needs}
+use Rattle.taking.proofs.alloc_proc.Statement.{statement}
+use Rattle.taking.proofs.alloc_proc.Tie as tie
+
+pids-requires : tie.Need-pids-requires
+pids-requires c κs = search needs
+
+returns : tie.Need-returns
+unfolding pidTop
+returns c = let k = take-spent (tableOf (c .before .before .before .args .t .now)) (rw (c .before .pids .ensures) at (c .if1 .taken)) in (k .0, k .1, tt)
+
+add-set-pids : tie.Need-add-set-pids
+add-set-pids c = search needs
+
+set-pids-requires : tie.Need-set-pids-requires
+set-pids-requires c κs = search needs
+
+find-requires : tie.Need-find-requires
+find-requires c κs = search needs
+
+enum-known-s : tie.Need-enum-known-s
+enum-known-s c = search needs
+
+enum-told : tie.Need-enum-told
+enum-told c = search needs
+
+returns-2 : tie.Need-returns-2
+unfolding pidTop
+returns-2 c = let k = take-full (tableOf (c .before .before .before .before .before .before .before .before .before .args .t .now)) {u = tableOf (c .before .before .before .before .set-pids .last .0)} (rw (c .before .before .before .before .before .before .before .pids .ensures) at (c .before .before .before .before .before .before .if1 .left))
+    (unused-found (tableOf (c .before .before .before .before .before .before .before .before .before .args .t .now)) (tableOf (c .before .before .before .before .set-pids .last .0)) _ (c .before .before .find .result) Nothing (c .before .before .find .ensures .0) (c .before .before .before .before .set-pids .ensures) (cc))
+    (c .before .before .before .before .set-pids .ensures ∙ ap (λ (n : ℕ). onBooks (withPids (n + 1)) (tableOf (c .before .before .before .before .before .before .before .before .before .args .t .now))) (c .before .before .before .before .before .before .before .pids .ensures)) in
+    (k .0, k .1, tt)
+
+returns-3 : tie.Need-returns-3
+unfolding pidTop
+returns-3 c = let k = take-slot (tableOf (c .before .before .before .before .before .before .before .before .before .before .args .t .now)) {u = tableOf (c .before .before .before .before .before .set-pids .last .0)} (rw (c .before .before .before .before .before .before .before .before .pids .ensures) at (c .before .before .before .before .before .before .before .if1 .left))
+    (unused-found (tableOf (c .before .before .before .before .before .before .before .before .before .before .args .t .now)) (tableOf (c .before .before .before .before .before .set-pids .last .0)) _ (c .before .before .before .find .result) (At _) (c .before .before .before .find .ensures .0) (c .before .before .before .before .before .set-pids .ensures) (c .before .s .given .1))
+    (c .before .before .before .before .before .set-pids .ensures ∙ ap (λ (n : ℕ). onBooks (withPids (n + 1)) (tableOf (c .before .before .before .before .before .before .before .before .before .before .args .t .now))) (c .before .before .before .before .before .before .before .before .pids .ensures)) in
+    (k .0, k .1, subst InRange (c .before .s .given .1) (c .before .before .before .find .ensures .1))
+
+pub alloc-proc-spec : {M : Type 1} → statement M
+alloc-proc-spec =
+    tie.close
+    (tie.spec
+    pids-requires
+    returns
+    add-set-pids
+    set-pids-requires
+    find-requires
+    enum-known-s
+    enum-told
+    returns-2
+    returns-3)

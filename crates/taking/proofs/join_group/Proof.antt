@@ -1,0 +1,26 @@
+use mathlib.Core.Path.{ap}
+use Rattle.rules.specs.declared.Group.{Group}
+use Rattle.taking.proofs.TakeLaws.{join-law}
+use mathlib.Core.Path.{_∙_}
+use Rattle.words.specs.Reading.{tableOf}
+use native.Mathlib.Omega.{arith}
+use Rattle.rules.specs.Sizes.{slotCount}
+use borrow.Author.Needs.{needs}
+use Rattle.taking.proofs.join_group.Statement.{statement}
+use Rattle.taking.proofs.join_group.Tie as tie
+
+group-at-requires : tie.Need-group-at-requires
+group-at-requires c κs = search needs
+
+add-t7 : tie.Need-add-t7
+unfolding slotCount
+add-t7 c = omega (arith, ap (λ (x : Group). x .count) (c .before .before .group-at .ensures), c .before .before .before .before .pre .1)
+
+set-group-requires : tie.Need-set-group-requires
+set-group-requires c κs = search needs
+
+returns : tie.Need-returns
+returns c = c .set-group .ensures ∙ join-law (tableOf (c .before .before .before .before .before .args .t .now)) (c .before .before .before .before .before .args .g) (c .before .before .before .group-at .result) (c .before .before .before .group-at .ensures)
+
+pub join-group-spec : {M : Type 1} → statement M
+join-group-spec = tie.close (tie.spec group-at-requires add-t7 set-group-requires returns)

@@ -1,0 +1,29 @@
+use Rattle.taking.proofs.TakeLaws.{less-one, less-more}
+use mathlib.Core.Path.{_∙_}
+use Rattle.words.specs.Reading.{tableOf}
+use borrow.Author.Needs.{needs}
+use Rattle.taking.proofs.leave.Statement.{statement}
+use Rattle.taking.proofs.leave.Tie as tie
+
+group-at-requires : tie.Need-group-at-requires
+group-at-requires c κs = search needs
+
+set-group-requires : tie.Need-set-group-requires
+set-group-requires c κs = search needs
+
+sub-t11 : tie.Need-sub-t11
+sub-t11 c = search needs
+
+set-group-requires-2 : tie.Need-set-group-requires-2
+set-group-requires-2 c κs = search needs
+
+returns : tie.Need-returns
+returns c = c .set-group .ensures ∙ less-one (tableOf (c .before .before .before .before .before .before .args .t .now)) (c .before .before .before .before .before .before .args .g) (c .before .before .before .before .group-at .result) (c .before .before .before .before .group-at .ensures) (c .before .before .if1 .taken)
+
+returns-2 : tie.Need-returns-2
+returns-2 c = c .set-group2 .ensures ∙ less-more (tableOf (c .before .before .before .before .before .before .before .args .t .now)) (c .before .before .before .before .before .before .before .args .g) (c .before .before .before .before .before .group-at .result) (c .before .before .before .before .before .group-at .ensures) (c .before .before .before .if1 .left)
+
+pub leave-spec : {M : Type 1} → statement M
+leave-spec =
+    tie.close
+    (tie.spec group-at-requires set-group-requires sub-t11 set-group-requires-2 returns returns-2)

@@ -1,0 +1,108 @@
+-- The rules' wake, kill and reparent, as the code goes through them.
+use Prim.Native.Nat.{ℕ, _+_}
+use native.Mathlib.Numerals.{add-one}
+use mathlib.Core.Path.{_≡_, refl, ap, _∙_}
+use mathlib.Core.Bool.{true, false}
+use borrow.Author.Tests.{eq-eqb, ne-eqb}
+use Rattle.rules.specs.declared.Slot.{Slot}
+use Rattle.rules.specs.declared.ProcState.the-variants.{UNUSED, RUNNABLE, SLEEPING}
+use Rattle.rules.specs.declared.Parent.{Parent}
+use Rattle.rules.specs.declared.Parent.the-variants.{Nobody, Of}
+use Rattle.rules.specs.declared.Kin.{Kin}
+use Prim.Native.Nat.{_<_}
+use lib.ListN.{length}
+use Rattle.rules.specs.Sizes.{slotCount}
+use Rattle.rules.specs.Model.{Core, Table, at, is, onMeta, asKilled, withParent}
+use Rattle.rules.specs.Moves.{change, publish, sweep, publishIf, wakeOne, wake, wakeOf, slay, handOver, reparent}
+use Rattle.promises.specs.Laws.Scans.{sweep-keeps}
+use Rattle.promises.specs.Order.Sound.{Queued}
+use Rattle.promises.specs.Order.States.{other}
+use Rattle.promises.specs.Order.Room.{queue-room}
+use Rattle.promises.specs.Order.Chains.{onCore}
+use Rattle.promises.specs.Order.QueuedKept.{parent-queued}
+use Rattle.words.specs.Effects.{withKin}
+
+-- a sleeper finds room in the queue
+pub room-asleep : (c : Core) (s : ℕ) → Queued c → is SLEEPING (at c s) ≡ true → length (c .queue) < slotCount
+room-asleep c s v e = queue-room c v s (other SLEEPING UNUSED (at c s) e) (other SLEEPING RUNNABLE (at c s) e)
+
+-- ---- one slot of a wake
+module _ (ch s : ℕ) (t : Table) where
+  pub wake-awake : is SLEEPING (at (t .core) s) ≡ false → t ≡ onCore (wakeOne ch s) t
+  unfolding wakeOne publishIf onCore
+  wake-awake e = rw e
+
+  pub wake-other : is SLEEPING (at (t .core) s) ≡ true → (at (t .core) s .meta .channel ≡ ch → ⊥) → t ≡ onCore (wakeOne ch s) t
+  unfolding wakeOne publishIf onCore
+  wake-other e n = rw (e, ne-eqb (at (t .core) s .meta .channel) ch n)
+
+  pub wake-this : is SLEEPING (at (t .core) s) ≡ true → at (t .core) s .meta .channel ≡ ch → onCore (publish s) t ≡ onCore (wakeOne ch s) t
+  unfolding wakeOne publishIf onCore
+  wake-this e n = rw (e, eq-eqb (at (t .core) s .meta .channel) ch n)
+
+-- ---- a sweep, slot by slot
+pub sweep-none : (f : ℕ → Core → Core) (t : Table) → t ≡ onCore (sweep f 0) t
+unfolding sweep onCore
+sweep-none f t = refl
+
+pub sweep-more : (f : ℕ → Core → Core) (t : Table) (n : ℕ) {a b : Table} → b ≡ onCore (f n) a → a ≡ onCore (sweep f n) t → b ≡ onCore (sweep f (n + 1)) t
+unfolding sweep onCore
+sweep-more f t n e i = rw add-one (e ∙ ap (onCore (f n)) i)
+
+-- the order half way
+pub sweep-queued : (f : ℕ → Core → Core) → ((i : ℕ) (c : Core) → Queued c → Queued (f i c)) → (n : ℕ) (t : Table) {u : Table} → u ≡ onCore (sweep f n) t → Queued (t .core) → Queued (u .core)
+unfolding onCore
+sweep-queued f k n t e v = rw e (sweep-keeps Queued f k n (t .core) v)
+
+pub wake-all : (ch : ℕ) (t : Table) {u : Table} → u ≡ onCore (sweep (wakeOne ch) slotCount) t → u ≡ onCore (wake ch) t
+unfolding wake
+wake-all ch t e = e
+
+pub wake-nobody : (p : Parent) (t : Table) → p ≡ Nobody → t ≡ onCore (wakeOf p) t
+unfolding wakeOf onCore
+wake-nobody p t e = rw e
+
+pub wake-somebody : (p : Parent) (s : Slot) (t : Table) → p ≡ Of s → onCore (wake (s .0 + 1)) t ≡ onCore (wakeOf p) t
+unfolding wakeOf onCore
+wake-somebody p s t e = rw (e, add-one)
+
+-- ---- kill
+module _ (t : Table) (s : ℕ) where
+  pub slay-asleep : is SLEEPING (at (t .core) s) ≡ true → onCore (publish s) (onCore (change (onMeta asKilled) s) t) ≡ onCore (slay s) t
+  unfolding slay publishIf onCore
+  slay-asleep e = rw e
+
+  pub slay-awake : is SLEEPING (at (t .core) s) ≡ false → onCore (change (onMeta asKilled) s) t ≡ onCore (slay s) t
+  unfolding slay publishIf onCore
+  slay-awake e = rw e
+
+-- ---- reparent
+pub kin-change : (t : Table) (i : ℕ) (k : Kin) (q : Parent) → k ≡ record { group = at (t .core) i .kin .group; parent = q; thread = at (t .core) i .kin .thread; system = at (t .core) i .kin .system }
+    → onCore (change (withKin k) i) t ≡ onCore (change (withParent q) i) t
+unfolding change onCore
+kin-change t i k q e = rw e
+
+pub adopt-law : (t : Table) (i : ℕ) (q : Parent) {u : Table} → u ≡ onCore (change (withParent q) i) t → onCore (wakeOf q) u ≡ onCore (λ c. wakeOf q (change (withParent q) i c)) t
+unfolding onCore
+adopt-law t i q e = ap (onCore (wakeOf q)) e
+
+pub adopt-queued : (t : Table) (i : ℕ) (q : Parent) {u : Table} → u ≡ onCore (change (withParent q) i) t → Queued (t .core) → Queued (u .core)
+unfolding onCore
+adopt-queued t i q e v = rw e (parent-queued q i (t .core) v)
+
+module _ (init : Parent) (s i : ℕ) (t : Table) where
+  pub hand-none : at (t .core) i .kin .parent ≡ Nobody → t ≡ onCore (handOver init s i) t
+  unfolding handOver onCore
+  hand-none e = rw e
+
+  pub hand-other : {x : Slot} → (s ≡ x .0 → ⊥) → at (t .core) i .kin .parent ≡ Of x → t ≡ onCore (handOver init s i) t
+  unfolding handOver onCore
+  hand-other {x} n e = rw (e, ne-eqb s (x .0) n)
+
+  pub hand-this : {x : Slot} → s ≡ x .0 → at (t .core) i .kin .parent ≡ Of x → onCore (λ c. wakeOf init (change (withParent init) i c)) t ≡ onCore (handOver init s i) t
+  unfolding handOver onCore
+  hand-this {x} n e = rw (e, eq-eqb s (x .0) n)
+
+pub reparent-all : (s : ℕ) (t : Table) {u : Table} (init : Parent) → init ≡ t .books .init → u ≡ onCore (sweep (handOver init s) slotCount) t → u ≡ onCore (reparent (t .books .init) s) t
+unfolding reparent
+reparent-all s t init f e = e ∙ ap (λ (q : Parent). onCore (sweep (handOver q s) slotCount) t) f

@@ -1,0 +1,39 @@
+use Rattle.wakes.proofs.WakeLaws.{hand-none, hand-other, hand-this}
+use mathlib.Core.Path.{_∙_}
+use Rattle.words.specs.Reading.{tableOf}
+use borrow.Author.Needs.{needs}
+use Rattle.wakes.proofs.hand_over.Statement.{statement}
+use Rattle.wakes.proofs.hand_over.Tie as tie
+
+kin-at-requires : tie.Need-kin-at-requires
+kin-at-requires c κs = search needs
+
+enum-known-parent : tie.Need-enum-known-parent
+enum-known-parent c = search needs
+
+enum-told : tie.Need-enum-told
+enum-told c = search needs
+
+returns : tie.Need-returns
+returns c = hand-none (c .before .before .before .before .args .init) (c .before .before .before .before .args .s) (c .before .before .before .before .args .i) (tableOf (c .before .before .before .before .args .t .now)) (cc)
+
+adopt-requires : tie.Need-adopt-requires
+adopt-requires c κs = search needs
+
+returns-2 : tie.Need-returns-2
+returns-2 c = c .adopt .ensures ∙ hand-this (c .before .before .before .before .before .before .before .before .before .args .init) (c .before .before .before .before .before .before .before .before .before .args .s) (c .before .before .before .before .before .before .before .before .before .args .i) (tableOf (c .before .before .before .before .before .before .before .before .before .args .t .now)) (c .before .before .if1 .taken) (cc)
+
+returns-3 : tie.Need-returns-3
+returns-3 c = hand-other (c .before .before .before .before .before .before .before .args .init) (c .before .before .before .before .before .before .before .args .s) (c .before .before .before .before .before .before .before .args .i) (tableOf (c .before .before .before .before .before .before .before .args .t .now)) (c .if1 .left) (cc)
+
+pub hand-over-spec : {M : Type 1} → statement M
+hand-over-spec =
+    tie.close
+    (tie.spec
+    kin-at-requires
+    enum-known-parent
+    enum-told
+    returns
+    adopt-requires
+    returns-2
+    returns-3)

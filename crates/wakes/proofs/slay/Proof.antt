@@ -1,0 +1,42 @@
+use Rattle.wakes.proofs.WakeLaws.{room-asleep, slay-asleep, slay-awake}
+use mathlib.Core.Path.{sym, ap, _∙_}
+use Rattle.words.specs.Reading.{tableOf}
+use Rattle.promises.specs.Order.Chains.{onCore}
+use Rattle.rules.specs.Model.{asKilled}
+use Rattle.rules.specs.Moves.{publish}
+use Rattle.moves.proofs.MoveLaws.{meta-change, change-queue}
+use borrow.Author.Needs.{needs}
+use Rattle.wakes.proofs.slay.Statement.{statement}
+use Rattle.wakes.proofs.slay.Tie as tie
+
+is-requires : tie.Need-is-requires
+is-requires c κs = search needs
+
+meta-at-requires : tie.Need-meta-at-requires
+meta-at-requires c κs = search needs
+
+set-meta-requires : tie.Need-set-meta-requires
+set-meta-requires c κs = search needs
+
+make-runnable-requires : tie.Need-make-runnable-requires
+make-runnable-requires c κs = (c .before .before .before .before .before .before .before .before .before .pre .0, rw (c .before .before .set-meta .ensures, change-queue) (room-asleep _ (c .before .before .before .before .before .before .before .before .before .args .i) (c .before .before .before .before .before .before .before .before .before .pre .1) (sym (c .before .before .before .before .before .before .before .is .ensures) ∙ c .before .if1 .taken)))
+
+returns : tie.Need-returns
+returns c = c .make-runnable .ensures
+    ∙ ap (onCore (publish _)) (c .before .before .before .set-meta .ensures ∙ meta-change (tableOf (c .before .before .before .before .before .before .before .before .before .before .args .t .now)) (c .before .before .before .before .before .before .before .before .before .before .args .i) _ asKilled (ap asKilled (c .before .before .before .before .before .before .meta-at .ensures)))
+    ∙ slay-asleep (tableOf (c .before .before .before .before .before .before .before .before .before .before .args .t .now)) (c .before .before .before .before .before .before .before .before .before .before .args .i) (sym (c .before .before .before .before .before .before .before .before .is .ensures) ∙ c .before .before .if1 .taken)
+
+returns-2 : tie.Need-returns-2
+returns-2 c = c .before .set-meta .ensures ∙ meta-change (tableOf (c .before .before .before .before .before .before .before .before .args .t .now)) (c .before .before .before .before .before .before .before .before .args .i) _ asKilled (ap asKilled (c .before .before .before .before .meta-at .ensures))
+    ∙ slay-awake (tableOf (c .before .before .before .before .before .before .before .before .args .t .now)) (c .before .before .before .before .before .before .before .before .args .i) (sym (c .before .before .before .before .before .before .is .ensures) ∙ c .if1 .left)
+
+pub slay-spec : {M : Type 1} → statement M
+slay-spec =
+    tie.close
+    (tie.spec
+    is-requires
+    meta-at-requires
+    set-meta-requires
+    make-runnable-requires
+    returns
+    returns-2)

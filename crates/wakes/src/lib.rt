@@ -1,0 +1,118 @@
+// Wake, kill and reparent: scans that publish.
+ghost use mathlib.Core.Path.{_≡_};
+ghost use Prim.Native.Nat.{_<_};
+ghost use Rattle.rules.specs.Sizes.{slotCount};
+ghost use Rattle.rules.specs.Model.{withParent};
+ghost use Rattle.rules.specs.Moves.{change, wakeOne, wake, wakeOf, slay, handOver, reparent};
+ghost use Rattle.promises.specs.Order.Sound.{Queued};
+ghost use Rattle.promises.specs.Order.Chains.{onCore};
+ghost use Rattle.words.specs.Reading.{tableOf, InTable};
+use rules::Kin;
+use rules::Parent;
+use rules::ProcMeta;
+use rules::ProcState;
+use words::Table;
+use words::book;
+use words::slot;
+
+fn wake_one(t: &mut [u64; Table::WORDS], i: usize, channel: u64)
+    requires { ⌜ (i < slotCount) × Queued (tableOf (now t) .core) ⌝ }
+    ensures { λ _. ⌜ tableOf (now (t .exit)) ≡ onCore (wakeOne channel i) (tableOf (now (t .entry))) ⌝ }
+{
+    if scans::is(t, i, ProcState::SLEEPING) {
+        let m = slot::meta_at(t, i);
+        if m.channel == channel {
+            moves::make_runnable(t, i);
+        }
+    }
+}
+
+pub fn wake_up(t: &mut [u64; Table::WORDS], channel: u64)
+    requires { ⌜ Queued (tableOf (now t) .core) ⌝ }
+    ensures { λ _. ⌜ tableOf (now (t .exit)) ≡ onCore (wake channel) (tableOf (now (t .entry))) ⌝ }
+{
+    for i in 0..Table::SLOTS {
+        wake_one(t, i, channel);
+    }
+}
+
+// The own channel of the slot is woken, where there is a slot.
+pub fn wake_of(t: &mut [u64; Table::WORDS], p: Parent)
+    requires { ⌜ InTable p × Queued (tableOf (now t) .core) ⌝ }
+    ensures { λ _. ⌜ tableOf (now (t .exit)) ≡ onCore (wakeOf p) (tableOf (now (t .entry))) ⌝ }
+{
+    let Parent::Of(s) = p else {
+        return;
+    };
+    wake_up(t, (s.0 as u64) + 1);
+}
+
+// Killed, and published if SLEEPING.
+pub fn slay(t: &mut [u64; Table::WORDS], i: usize)
+    requires { ⌜ (i < slotCount) × Queued (tableOf (now t) .core) ⌝ }
+    ensures { λ _. ⌜ tableOf (now (t .exit)) ≡ onCore (slay i) (tableOf (now (t .entry))) ⌝ }
+{
+    let asleep = scans::is(t, i, ProcState::SLEEPING);
+    let m = slot::meta_at(t, i);
+    let state = m.state;
+    let pid = m.pid;
+    slot::set_meta(
+        t,
+        i,
+        ProcMeta {
+            state,
+            channel: m.channel,
+            killed: true,
+            xstate: m.xstate,
+            pid,
+            queued: m.queued,
+        },
+    );
+    if asleep {
+        moves::make_runnable(t, i);
+    }
+}
+
+fn adopt(t: &mut [u64; Table::WORDS], init: Parent, i: usize)
+    requires { ⌜ (i < slotCount) × InTable init × Queued (tableOf (now t) .core) ⌝ }
+    ensures { λ _. ⌜ tableOf (now (t .exit)) ≡ onCore (λ c. wakeOf init (change (withParent init) i c)) (tableOf (now (t .entry))) ⌝ }
+{
+    let k = slot::kin_at(t, i);
+    let group = k.group;
+    slot::set_kin(
+        t,
+        i,
+        Kin {
+            group,
+            parent: init,
+            thread: k.thread,
+            system: k.system,
+        },
+    );
+    wake_of(t, init);
+}
+
+fn hand_over(t: &mut [u64; Table::WORDS], init: Parent, s: usize, i: usize)
+    requires { ⌜ (i < slotCount) × InTable init × Queued (tableOf (now t) .core) ⌝ }
+    ensures { λ _. ⌜ tableOf (now (t .exit)) ≡ onCore (handOver init s i) (tableOf (now (t .entry))) ⌝ }
+{
+    let k = slot::kin_at(t, i);
+    let parent = k.parent;
+    let Parent::Of(p) = parent else {
+        return;
+    };
+    if s == p.0 {
+        adopt(t, init, i);
+    }
+}
+
+// Each slot whose parent is s, ZOMBIE or not, gets init, and for each init's channel is woken.
+pub fn reparent(t: &mut [u64; Table::WORDS], s: usize)
+    requires { ⌜ Queued (tableOf (now t) .core) ⌝ }
+    ensures { λ _. ⌜ tableOf (now (t .exit)) ≡ onCore (reparent (tableOf (now (t .entry)) .books .init) s) (tableOf (now (t .entry))) ⌝ }
+{
+    let init = book::init(t);
+    for i in 0..Table::SLOTS {
+        hand_over(t, init, s, i);
+    }
+}
