@@ -1,24 +1,26 @@
 -- Demand 3 in plain words, of every table that calls make of a fresh one. First in, first out is in FirstOut.antt.
 use Prim.Native.Nat.{ℕ, _<_}
 use native.Mathlib.Omega.{arith}
-use mathlib.Core.Path.{_≡_, refl, ap, _∙_}
+use mathlib.Core.Path.{subst, _≡_, refl, ap, _∙_}
 use mathlib.Core.Logic.{_≢_}
 use mathlib.Core.Bool.{true, false, not}
 use mathlib.Core.List.{List, [], _∷_}
 use lib.ListN.{length, getD}
+use lib.Seq.{getD-set-same}
 use lib.Dec.{eqb}
 use borrow.Author.Tests.{eq-eqb, lt-leb}
-use Rattle.promises.specs.Types.{RUNNABLE, RUNNING, SLEEPING, ZOMBIE, Parent, Nobody, Of, Refusal, Handed, Refused}
+use Rattle.promises.specs.Types.{Slot, Answer, RUNNABLE, RUNNING, SLEEPING, ZOMBIE, Parent, Nobody, Of, Refusal, Handed, Refused}
 use Rattle.rules.specs.Sizes.{slotCount, hartCount, ownChannel}
 use Rattle.rules.specs.Model.{Core, Table, at, hartAt, is, isSlot, slot}
-use Rattle.rules.specs.Moves.{hand, sleepsOn}
-use Rattle.rules.specs.Calls.{Outcome, gives, moves, refuseIf, handNext, dispatched, childOf, zombieChildOf}
+use Rattle.rules.specs.Moves.{change, hand, sleepsOn}
+use Rattle.rules.specs.Calls.{refuse, Outcome, gives, moves, refuseIf, handNext, dispatched, childOf, zombieChildOf}
 use Rattle.rules.specs.Runs.{Call, dispatch, step}
 use Rattle.promises.specs.Laws.Lists.{and-both, clash, ind, ind-small, tally-two, Stands, tally-stands}
 use Rattle.promises.specs.Order.Sound.{Sound, Lives}
 use Rattle.promises.specs.Order.Room.{queued-runnable}
 use Rattle.promises.specs.Order.States.{runs-running}
 use Rattle.promises.specs.FirstOut.{queued-once}
+use Rattle.promises.specs.Calls.Steps.{Fair, Ended, refused, spentOn, handed, granted, step-ends}
 use Rattle.promises.specs.Reached.{reached, reached-sound}
 
 -- a slot that sleeps in wait: on its own channel
@@ -74,21 +76,51 @@ pub demand-3 : (cs : List Call) → Demand3 (reached cs)
 demand-3 cs = sound-demand (reached cs) (reached-sound cs)
 
 -- ---- dispatch on an idle hart
--- while a slot waits it is granted: the head comes out, and the rest stays in its order
-pub dispatch-granted : (t : Table) (h s : ℕ) (rest : List ℕ) → h < hartCount → hartAt (t .core) h ≡ Nobody → t .core .queue ≡ s ∷ rest
-    → (step t (dispatch h) .answer ≡ Handed (slot s)) × (step t (dispatch h) .table .core .queue ≡ rest)
-unfolding step dispatched refuseIf handNext moves gives hand
-dispatch-granted t h s rest r i e = (rw (lt-leb hartCount h r, i, e), rw (lt-leb hartCount h r, i, e))
+-- the promise, of any rule for one call: while a slot waits a dispatch is granted; the head runs on that hart, and the rest stays in its order
+pub record Dispatched (o : Outcome) (h s : ℕ) (rest : List ℕ) : Type 0 where
+  pub answer : o .answer ≡ Handed (slot s)
+  pub hart : hartAt (o .table .core) h ≡ Of (slot s)
+  pub queue : o .table .core .queue ≡ rest
 
--- the promise, of any rule for one call: an idle hart's dispatch is refused only for an empty queue
-unfoldable pub RefusedOnlyEmpty : (Table → Call → Outcome) → Type 0
-RefusedOnlyEmpty f = (before : List Call) (h : ℕ) (r : Refusal) → h < hartCount → hartAt (reached before .core) h ≡ Nobody
-    → f (reached before) (dispatch h) .answer ≡ Refused r → reached before .core .queue ≡ []
+unfoldable pub DispatchRule : (Table → Call → Outcome) → Type 0
+DispatchRule f = (before : List Call) (h s : ℕ) (rest : List ℕ) → h < hartCount → hartAt (reached before .core) h ≡ Nobody → reached before .core .queue ≡ s ∷ rest
+    → Dispatched (f (reached before) (dispatch h)) h s rest
 
-pub refused-only-empty : RefusedOnlyEmpty step
-unfolding RefusedOnlyEmpty
+pub dispatch-granted : DispatchRule step
+unfolding DispatchRule step dispatched refuseIf handNext moves gives hand change
+dispatch-granted before h s rest r i e = record {
+  answer = rw (lt-leb hartCount h r, i, e);
+  hart = rw (lt-leb hartCount h r, i, e) (getD-set-same (t .core .harts) h (Of (slot s)) Nobody (omega (arith, reached-sound before .queued .wide)));
+  queue = rw (lt-leb hartCount h r, i, e);
+}
+  where
+    t : Table
+    t = reached before
+
+-- .. so it is refused only for an empty queue
+pub refused-only-empty : (before : List Call) (h : ℕ) (r : Refusal) → h < hartCount → hartAt (reached before .core) h ≡ Nobody
+    → step (reached before) (dispatch h) .answer ≡ Refused r → reached before .core .queue ≡ []
+unfolding DispatchRule
 refused-only-empty before h r l i e = go (reached before .core .queue) refl
   where
+    head : (s : ℕ) (rest : List ℕ) → reached before .core .queue ≡ s ∷ rest → step (reached before) (dispatch h) .answer ≡ Handed (slot s)
+    head s rest f = dispatch-granted before h s rest l i f .answer
+
     go : (q : List ℕ) → reached before .core .queue ≡ q → q ≡ []
     go [] f = refl
-    go (s ∷ rest) f = let z = dispatch-granted (reached before) h s rest l i f .0 in cc
+    go (s ∷ rest) f = let z = head s rest f in cc
+
+-- nothing but a dispatch hands out a slot
+pub record Granted (c : Call) : Type 0 where
+  pub hart : ℕ
+  pub call : c ≡ dispatch hart
+
+ended-handed : {c : Call} {t : Table} {o : Outcome} (s : Slot) → Ended c t o → o .answer ≡ Handed s → Granted c
+unfolding refuse gives moves
+ended-handed s (refused _ _ _) e = let z : _≡_ {A = ℕ} 0 1 = cc in absurd (omega arith)
+ended-handed s (spentOn _ _ _ _) e = let z : _≡_ {A = ℕ} 0 1 = cc in absurd (omega arith)
+ended-handed s (handed h _ _ e _ _ _) _ = record { hart = h; call = e }
+ended-handed {t = t} s (granted a u f _) e = absurd (subst (λ (x : Answer). Fair t x u) e f)
+
+pub handed-by-dispatch : (before : List Call) (c : Call) (s : Slot) → step (reached before) c .answer ≡ Handed s → Granted c
+handed-by-dispatch before c s e = ended-handed s (step-ends (reached before) (reached-sound before) c) e

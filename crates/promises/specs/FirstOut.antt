@@ -51,7 +51,7 @@ ended-flows : {c : Call} {t : Table} {o : Outcome} → Ended c t o → Flows (t 
 unfolding refuse gives moves spent hand
 ended-flows {t = t} (refused _ _ _) = record { new = []; split = append-nil (t .core .queue) }
 ended-flows {t = t} (spentOn _ _ _ _) = record { new = []; split = append-nil (t .core .queue) }
-ended-flows {t = t} (handed h s rest q _ _) = record { new = []; split = append-nil (t .core .queue) ∙ q }
+ended-flows {t = t} (handed h s rest _ q _ _) = record { new = []; split = append-nil (t .core .queue) ∙ q }
 ended-flows {t = t} (granted a u f m) = record { new = chain-grows m .new; split = rw (fair-none t u a f) (sym (chain-grows m .split)) }
 
 flows-then : {q h r k s : List ℕ} → Flows q h r → Flows r k s → Flows q (h ++ k) s

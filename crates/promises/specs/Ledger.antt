@@ -96,7 +96,7 @@ ended-rises : {c : Call} {t : Table} {o : Outcome} (l : List ℕ) (k : ℕ) → 
 unfolding refuse gives moves spent spend
 ended-rises l k (refused _ _ _) w = w
 ended-rises {t = t} l k (spentOn _ _ _ _) w = rises-more (t .books .pids) (t .books .pids + 1) k l (omega arith) w
-ended-rises l k (handed _ _ _ _ _ _) w = w
+ended-rises l k (handed _ _ _ _ _ _ _) w = w
 ended-rises {t = t} l k (granted a u f _) w = fair-rises t u a l k f w
 
 run-rises : (t : Table) (cs : List Call) → Sound t → Rises (t .books .pids) (pidsGiven (run t cs .answers)) (run t cs .table .books .pids)

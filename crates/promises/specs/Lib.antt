@@ -7,9 +7,11 @@ pub mod Did
 pub mod FirstOut
 pub mod Demand3
 pub mod Panics
+pub mod Published
 pub mod Ledger
 pub mod Refused
 pub mod ListingBound
 pub mod Listed
 pub mod WorkedRuns
+pub mod MoreRuns
 pub mod EmptyPrograms

@@ -1,21 +1,21 @@
--- The listing of every reached table: 64 * 66 bytes always suffice, and its numbers are the pids.
+-- The listing of every reached table: listingTop bytes always suffice, and the digits it writes for a pid say that pid.
 use Prim.Native.Nat.{ℕ, _^_, _≤_, _<_}
 use native.Mathlib.Omega.{arith}
-use mathlib.Core.Path.{_≡_}
-use mathlib.Core.List.{List}
+use mathlib.Core.Path.{_≡_, refl}
+use mathlib.Core.List.{List, []}
 use lib.ListN.{length}
 use borrow.Author.Tests.{le-leb}
 use Rattle.promises.specs.Types.{Fits}
-use Rattle.rules.specs.Sizes.{pidTop, listingTop}
-use Rattle.rules.specs.Model.{at}
-use Rattle.rules.specs.Listing.{digits, listing, fitsIn, roomFor, listedPart}
+use Rattle.rules.specs.Sizes.{slotCount, pidTop, listingTop}
+use Rattle.rules.specs.Model.{at, free, fresh}
+use Rattle.rules.specs.Listing.{digits, linesOf, listing, fitsIn, roomFor, listedPart}
 use Rattle.rules.specs.Runs.{Call}
 use Rattle.promises.specs.Laws.Digits.{valueOf, digits-value}
 use Rattle.promises.specs.ListingBound.{listing-short}
 use Rattle.promises.specs.Reached.{reached, reached-sound}
 
 pub listing-bounded : (cs : List Call) → length (listing (reached cs)) ≤ listingTop
-listing-bounded cs = let w = reached-sound cs in listing-short (reached cs) (w .queued .tall) (λ s. w .tidy s .name)
+listing-bounded cs = let w = reached-sound cs in listing-short (reached cs) (w .queued .tall) (λ s. omega (arith, w .tidy s .name))
 
 -- a buffer of that size gets the text
 pub listing-suffices : (cs : List Call) (b : List ℕ) → listingTop ≤ length b
@@ -29,3 +29,12 @@ pids-short n l = omega arith
 
 pub listing-pids : (cs : List Call) (s : ℕ) → valueOf (digits (at (reached cs .core) s .meta .pid .0)) ≡ at (reached cs .core) s .meta .pid .0
 listing-pids cs s = let w = reached-sound cs .numbered in digits-value _ (pids-short _ (omega (arith, w .high s, w .top)))
+
+-- a fresh table's empty text fits any room
+fresh-empty : listing fresh ≡ []
+unfolding listing linesOf fresh free slotCount
+fresh-empty = refl
+
+pub fresh-fits : (room : ℕ) → roomFor fresh room ≡ Fits 0
+unfolding roomFor fitsIn
+fresh-fits room = rw (fresh-empty, le-leb 0 room (omega arith))

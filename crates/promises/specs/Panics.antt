@@ -1,4 +1,4 @@
--- What the Rust panics about cannot happen: each of its tests, shown of the tables on which the rules do the same.
+-- What the Rust panics about cannot happen: its tests on the queue, parents and groups, of every sound table, so also half way through a call.
 use Prim.Native.Nat.{ℕ, _≤_, _<_}
 use mathlib.Core.Path.{_≡_, refl, ap, _∙_}
 use mathlib.Core.Logic.{_⊎_, inl, inr}
@@ -13,7 +13,7 @@ use Rattle.rules.specs.Moves.{reparent}
 use Rattle.rules.specs.Calls.{reapThreads}
 use Rattle.rules.specs.Runs.{Call}
 use Rattle.promises.specs.Laws.Lists.{clash, ind, tally}
-use Rattle.promises.specs.Order.Sound.{Sound}
+use Rattle.promises.specs.Order.Sound.{isIn, Sound}
 use Rattle.promises.specs.Order.States.{other, head-ready, runs-running, runs-used}
 use Rattle.promises.specs.Order.Room.{queue-fits, queue-room}
 use Rattle.promises.specs.Order.Chains.{onCore, runs}
@@ -57,6 +57,13 @@ module _ (t : Table) (w : Sound t) where
       go false u true f = absurd (clash k (ap known (w .tidy i .lone f .1)))
       go false u false f = w .tidy i .after u f
 
+  zombie-has-group : (s : ℕ) → is ZOMBIE (at (t .core) s) ≡ true → isIn (at (t .core) s .kin .group) ≡ true
+  zombie-has-group s z = go (at (t .core) s .kin .system) refl
+    where
+      go : (b : Bool) → at (t .core) s .kin .system ≡ b → isIn (at (t .core) s .kin .group) ≡ true
+      go true y = absurd (clash z (w .tidy s .lone y .3))
+      go false y = w .tidy s .group (other ZOMBIE UNUSED (at (t .core) s) z) y
+
   -- "Fail to find parent process": where exit reads the parent, after the threads are reaped and the children handed over, there is one
   exit-has-parent : (h s : ℕ) → runs t h s → at (t .core) s .kin .system ≡ false → isSlot s (t .books .init) ≡ false
       → let u = reapThreads (at (t .core) s .kin .group) t in known (at (reparent (u .books .init) s (u .core)) s .kin .parent) ≡ true
@@ -97,15 +104,21 @@ pub record NoPanic (t : Table) : Type 0 where
   pub dispatches : (s : ℕ) (rest : List ℕ) → t .core .queue ≡ s ∷ rest → (is RUNNABLE (at (t .core) s) ≡ true) × (at (t .core) s .meta .queued ≡ true)
   pub groups : (s : ℕ) → s < length (t .core .slots) → is UNUSED (at (t .core) s) ≡ true → Empty (t .books)
   pub heirs : (i : ℕ) → known (at (t .core) i .kin .parent) ≡ true → known (t .books .init) ≡ true
+  -- "user process has no address space": whoever is ZOMBIE, and so may be freed, has a group
+  pub spaces : (s : ℕ) → is ZOMBIE (at (t .core) s) ≡ true → isIn (at (t .core) s .kin .group) ≡ true
   pub parents : (h s : ℕ) → runs t h s → at (t .core) s .kin .system ≡ false → isSlot s (t .books .init) ≡ false
       → let u = reapThreads (at (t .core) s .kin .group) t in known (at (reparent (u .books .init) s (u .core)) s .kin .parent) ≡ true
 
-pub no-panic : (cs : List Call) → NoPanic (reached cs)
-no-panic cs = let t = reached cs in let w = reached-sound cs in record {
+pub sound-no-panic : (t : Table) → Sound t → NoPanic t
+sound-no-panic t w = record {
   fits = queue-fits (t .core) (w .queued);
   publishes = publish-allowed t w;
   dispatches = head-marked t w;
   groups = group-found t w;
   heirs = heir-known t w;
   parents = exit-has-parent t w;
+  spaces = zombie-has-group t w;
 }
+
+pub no-panic : (cs : List Call) → NoPanic (reached cs)
+no-panic cs = sound-no-panic (reached cs) (reached-sound cs)

@@ -57,6 +57,7 @@ fresh-counted = record {
   tall = length-replicate groupCount noGroup;
   count = λ g. rw (same-all groupCount noGroup g) (sym (tally-none (names g) slotCount free refl));
   empty = λ g _. rw (same-all groupCount noGroup g);
+  top = λ g. rw (same-all groupCount noGroup g) (omega arith);
 }
 
 fresh-asleep : Asleep (fresh .core)
@@ -79,7 +80,7 @@ ended-sound : {c : Call} {t : Table} {o : Outcome} → Sound t → Ended c t o �
 unfolding refuse gives moves onCore
 ended-sound w (refused _ _ _) = w
 ended-sound w (spentOn _ _ _ l) = chain-sound w (one (spending l))
-ended-sound {t = t} w (handed h s rest q r e) = hand-sound t h s rest w q r e
+ended-sound {t = t} w (handed h s rest _ q r e) = hand-sound t h s rest w q r e
 ended-sound w (granted _ _ _ m) = chain-sound w m
 
 pub step-sound : (t : Table) (c : Call) → Sound t → Sound (step t c .table)

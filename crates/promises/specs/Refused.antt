@@ -23,7 +23,7 @@ ended-unharmed : {c : Call} {t : Table} {o : Outcome} (r : Refusal) → Ended c 
 unfolding refuse gives moves
 ended-unharmed {c} {t} r (refused q n s) e = let z : q ≡ r = cc in record { table = rw (← z, s); named = rw (← z) n }
 ended-unharmed {c} {t} r (spentOn q n s _) e = let z : q ≡ r = cc in record { table = rw (← z, s); named = rw (← z) n }
-ended-unharmed {c} {t} r (handed _ _ _ _ _ _) e = let z : _≡_ {A = ℕ} 0 1 = cc in absurd (omega arith)
+ended-unharmed {c} {t} r (handed _ _ _ _ _ _ _) e = let z : _≡_ {A = ℕ} 0 1 = cc in absurd (omega arith)
 ended-unharmed {c} {t} r (granted a u f _) e = absurd (subst (λ (x : Answer). Fair t x u) e f)
 
 pub refusal-unharmed : (cs : List Call) (c : Call) (r : Refusal) → step (reached cs) c .answer ≡ Refused r → Unharmed c (reached cs) r (step (reached cs) c .table)

@@ -1,4 +1,4 @@
--- The calls, in document 01's order: for each, its refusals in order, and what it does when granted.
+-- The calls, in document 01's order: for each, its refusals in order, and what it does when granted. First what they share.
 use Prim.Native.Nat.{ℕ, _+_, _-_, _%_, _^_}
 use mathlib.Core.Bool.{Bool, true, false, not, cond, _&&_, _||_}
 use mathlib.Core.List.{List, [], _∷_, _++_}
@@ -222,7 +222,7 @@ waitedFor t h w s none =
 unfoldable pub waited : Table → ℕ → Wish → Outcome
 waited t h w = onHart t h λ s. waitedFor t h w s (lowest (zombieChildOf s) (t .core .slots))
 
--- ---- join: the named thread in the caller's group, never the caller
+-- ---- join: the named thread in the caller's group, never the caller, which alone has the caller's pid
 unfoldable pub threadOf : Member → Process → Bool
 threadOf m p = p .kin .thread && sameGroup m (p .kin .group)
 

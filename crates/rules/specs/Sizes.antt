@@ -63,9 +63,9 @@ ownChannel s = suc s
 unfoldable pub firstDevice : ℕ
 firstDevice = slotCount + 1
 
--- ---- the listing: a line, and the whole of it, at the longest
+-- ---- the listing at the longest: a line, with 20 digits, the longest state and a full name; and the whole
 unfoldable pub lineTop : ℕ
-lineTop = 66
+lineTop = 50 + nameSize
 
 unfoldable pub listingTop : ℕ
 listingTop = slotCount * lineTop

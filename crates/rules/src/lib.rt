@@ -44,7 +44,8 @@ pub struct Kin {
     pub system: bool,
 }
 
-// Of the Rust's ProcData: what the slot is started with. No call changes it before the slot is freed.
+// Of the Rust's ProcData, what no call changes before the slot is freed: trapframe address, first stack pointer, start record
+// (entry, stack top, argument, return address) and name.
 pub struct Start {
     pub trapframe: u64,
     pub sp: u64,

@@ -4,14 +4,13 @@ use native.Mathlib.Omega.{arith}
 use mathlib.Core.Path.{_≡_, refl, sym, ap}
 use mathlib.Core.Bool.{Bool, true, false, cond}
 use mathlib.Core.Option.{Option, none, some}
-use lib.ListN.{length}
 use lib.Dec.{leb}
 use borrow.Author.Tests.{leb-false}
 use Rattle.rules.specs.declared.ProcState.the-variants.{UNUSED}
 use Rattle.rules.specs.declared.Parent.{Parent}
 use Rattle.rules.specs.declared.Parent.the-variants.{Nobody, Of}
-use Rattle.rules.specs.declared.Refusal.the-variants.{NoSuchHart, HartIdle, PidsSpent, TableFull}
-use Rattle.rules.specs.Sizes.{slotCount, hartCount, pidTop}
+use Rattle.rules.specs.declared.Refusal.the-variants.{NoSuchHart, PidsSpent, TableFull}
+use Rattle.rules.specs.Sizes.{hartCount, pidTop}
 use Rattle.rules.specs.Model.{Core, Table, at, hartAt, free, is, slot}
 use Rattle.rules.specs.Moves.{lowest}
 use Rattle.rules.specs.Calls.{Outcome, refuse, refuseIf, runner, onHart, found, spent, taking}

@@ -69,14 +69,18 @@ module _ (t : Table) (w : Sound t) (h s : ℕ) (e : runs t h s) where
   unfolding orphans onCore
   same-thread k f = ap (λ (x : Kin). x .thread) f ∙ reparent-steady (t .books .init) s (t .core) .thread s
 
+  same-system : (k : Kin) → k ≡ at (orphans .core) s .kin → k .system ≡ at (t .core) s .kin .system
+  unfolding orphans onCore
+  same-system k f = ap (λ (x : Kin). x .system) f ∙ reparent-steady (t .books .init) s (t .core) .system s
+
   same-harts : (l : List Parent) → l ≡ orphans .core .harts → getD l h Nobody ≡ Of (slot s)
   unfolding orphans onCore
   same-harts l f = on-hart (f ∙ reparent-steady (t .books .init) s (t .core) .harts)
 
   -- a leader wakes its parent
-  pub leader-chain : (x : ℕ) → at (t .core) s .kin .thread ≡ false → isSlot s (t .books .init) ≡ false → Chain t (onCore (λ _. zombieOn h s x (departing t s)) t)
+  pub leader-chain : (x : ℕ) → at (t .core) s .kin .thread ≡ false → at (t .core) s .kin .system ≡ false → isSlot s (t .books .init) ≡ false → Chain t (onCore (λ _. zombieOn h s x (departing t s)) t)
   unfolding onCore departing orphans
-  leader-chain x y n = more (chained hand-over (wakeOf-chain orphans parent sound)) (dying h s x (same-harts _ (wakeOf-harts parent (orphans .core))) bye)
+  leader-chain x y v n = more (chained hand-over (wakeOf-chain orphans parent sound)) (dying h s x (same-harts _ (wakeOf-harts parent (orphans .core))) bye)
     where
       parent : Parent
       parent = at (orphans .core) s .kin .parent
@@ -90,15 +94,16 @@ module _ (t : Table) (w : Sound t) (h s : ℕ) (e : runs t h s) where
       bye : Farewell (onCore (wakeOf parent) orphans) s
       bye = record {
         mortal = n;
+        user = same-system _ kin ∙ v;
         joiners = λ f. absurd (clash f (same-thread _ kin ∙ y));
         parent = λ _ q f. wakeOf-empties parent orphans sound q (rw kin at f);
       }
 
   -- a thread wakes its joiners
-  pub thread-chain : (x : ℕ) → at (t .core) s .kin .thread ≡ true → isSlot s (t .books .init) ≡ false
+  pub thread-chain : (x : ℕ) → at (t .core) s .kin .thread ≡ true → at (t .core) s .kin .system ≡ false → isSlot s (t .books .init) ≡ false
       → Chain t (onCore (λ c. zombieOn h s x (wake (ownChannel s) (reparent (t .books .init) s c))) t)
   unfolding onCore orphans
-  thread-chain x y n = more (chained hand-over (wake-chain orphans (ownChannel s) sound)) (dying h s x (same-harts _ (wake-harts (ownChannel s) (orphans .core))) bye)
+  thread-chain x y v n = more (chained hand-over (wake-chain orphans (ownChannel s) sound)) (dying h s x (same-harts _ (wake-harts (ownChannel s) (orphans .core))) bye)
     where
       sound : Sound orphans
       sound = chain-sound w hand-over
@@ -106,6 +111,7 @@ module _ (t : Table) (w : Sound t) (h s : ℕ) (e : runs t h s) where
       bye : Farewell (onCore (wake (ownChannel s)) orphans) s
       bye = record {
         mortal = n;
+        user = same-system _ (wake-calm (ownChannel s) (orphans .core) s .kin) ∙ v;
         joiners = λ _. wake-empties (ownChannel s) (orphans .core) (sound .queued .tall);
         parent = λ f. absurd (clash (same-thread _ (wake-calm (ownChannel s) (orphans .core) s .kin) ∙ y) f);
       }

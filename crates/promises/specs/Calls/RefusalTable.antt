@@ -1,4 +1,4 @@
--- Document 01's table of refusals, read by call: which numbers a call may answer, in the order of its tests, and which spend a pid.
+-- Document 01's table of refusals, read by call: which numbers a call may answer, and which spend a pid.
 use Prim.Native.Nat.{ℕ}
 use mathlib.Core.Bool.{Bool, true, false, _&&_, _||_}
 use mathlib.Core.List.{List, [], _∷_}

@@ -6,17 +6,17 @@ use mathlib.Core.Logic.{_≢_, inl}
 use mathlib.Core.Bool.{Bool, true, false, cond, _||_}
 use mathlib.Core.List.{List, [], _∷_, _++_}
 use mathlib.Core.Option.{Option, none, some}
-use lib.ListN.{length, getD, replicate, length-take, List·getD-eq-default}
+use lib.ListN.{length-append, length-replicate, length, getD, replicate, length-take, List·getD-eq-default}
 use lib.Seq.{getD-set-same}
-use lib.IntN.{ℤ}
+use lib.IntN.{pos, negsuc, ℤ}
 use lib.Dec.{eqb, leb}
 use borrow.Author.Tests.{eq-eqb, leb-true, leb-false, ltb-false, not-true, not-false}
 use Rattle.promises.specs.Types.{Pid, UNUSED, ALLOCATED, RUNNING, ZOMBIE, Parent, Nobody, Of, Member, In, Process, Kin, Start, Wish, ThreadAsk, Mapped, Refusal, NoSuchHart, HartIdle, HartBusy, QueueEmpty, TableFull, PidsSpent, NoGroup, BadAddress, Unmapped, NoneSuch, StatusUnwritable, InitOutOfTurn, WrongWayOut, NotADevice, NameTooLong, SizeOutOfLimits, NoMemory, Answer, Done, Made, Handed, Reaped, Joined, Blocked, Refused}
-use Rattle.rules.specs.Sizes.{hartCount, pidTop, nameSize, initSize, ownChannel, firstDevice}
+use Rattle.rules.specs.Sizes.{sizeTop, trapframe, trampoline, pageSize, slotCount, hartCount, pidTop, nameSize, initSize, ownChannel, firstDevice}
 use Rattle.rules.specs.Answers.{numberOf}
 use Rattle.rules.specs.Model.{Core, Table, at, hartAt, free, taken, is, isSlot, known, sameGroup, slot}
 use Rattle.rules.specs.Moves.{change, hand, lowest, openGroup, joinGroup, resize, setInit, spend, reap}
-use Rattle.rules.specs.Calls.{Outcome, gives, moves, refuse, spent, fill, publishNew, madeIn, padded, initName, initIn, bootedIn, booted, startedAt, started, systemIn, spawnedIn, spawned, systemReturnedBy, systemReturned, childIn, forkedIn, forkedBy, forked, leaderOf, threadIn, threadedIn, threadedBy, threaded, handNext, dispatched, yielded, slept, woken, hasPid, killed, zombieChildOf, waitedFor, waited, threadOf, threadNamed, joinedTo, joinedBy, joined, threadEnded, reapThreads, exitedPast, leaderExited, exitedBy, exited, threadExitedBy, threadExited, grownTo, grownBy, grown}
+use Rattle.rules.specs.Calls.{within, Outcome, gives, moves, refuse, spent, fill, publishNew, madeIn, padded, initName, initIn, bootedIn, booted, startedAt, started, systemIn, spawnedIn, spawned, systemReturnedBy, systemReturned, childIn, forkedIn, forkedBy, forked, leaderOf, threadIn, threadedIn, threadedBy, threaded, handNext, dispatched, yielded, slept, woken, hasPid, killed, zombieChildOf, waitedFor, waited, threadOf, threadNamed, joinedTo, joinedBy, joined, threadEnded, reapThreads, exitedPast, leaderExited, exitedBy, exited, threadExitedBy, threadExited, grownTo, grownBy, grown}
 use Rattle.rules.specs.Runs.{Call, boot, start, spawn, systemReturn, fork, thread, dispatch, yield, sleep, wakeup, kill, wait, join, threadExit, exit, grow, step}
 use Rattle.promises.specs.Laws.Lists.{and-left, and-right, or-left, or-right, clash}
 use Rattle.promises.specs.Laws.Scans.{lowest-passes, lowest-none}
@@ -44,14 +44,27 @@ Fair t Blocked u = u .books .pids ≡ t .books .pids
 pub data Ended (c : Call) (t : Table) : Outcome → Type 0 where
   refused : (r : Refusal) → among (numberOf r) (mayGive c) ≡ true → spendsPid c (numberOf r) ≡ false → Ended c t (refuse r t)
   spentOn : (r : Refusal) → among (numberOf r) (mayGive c) ≡ true → spendsPid c (numberOf r) ≡ true → t .books .pids < pidTop → Ended c t (refuse r (spent t))
-  handed : (h s : ℕ) (rest : List ℕ) → t .core .queue ≡ s ∷ rest → h < hartCount → hartAt (t .core) h ≡ Nobody
+  handed : (h s : ℕ) (rest : List ℕ) → c ≡ dispatch h → t .core .queue ≡ s ∷ rest → h < hartCount → hartAt (t .core) h ≡ Nobody
       → Ended c t (moves (Handed (slot s)) (hand h s rest (t .core)) t)
   granted : (a : Answer) (u : Table) → Fair t a u → Chain t u → Ended c t (gives a u)
 
--- ---- slots just taken
-padded-short : (l : List ℕ) → length (padded l) ≤ nameSize
+-- ---- slots just taken, and sizes
+within-top : (d : ℤ) (n : ℕ) → within d ≡ some n → n ≤ sizeTop
+unfolding within
+within-top (pos k) n e = go (leb k sizeTop) refl e
+  where
+    go : (b : Bool) → leb k sizeTop ≡ b → cond b (some k) none ≡ some n → n ≤ sizeTop
+    go true p q = let z : k ≡ n = cc in rw (← z) (leb-true k sizeTop p)
+    go false p q = let z : _≡_ {A = ℕ} 0 1 = cc in absurd (omega arith)
+within-top (negsuc k) n e = let z : _≡_ {A = ℕ} 0 1 = cc in absurd (omega arith)
+
+padded-long : (l : List ℕ) → length (padded l) ≡ nameSize
 unfolding padded
-padded-short l = omega (arith, length-take nameSize (l ++ replicate nameSize 0))
+padded-long l = omega (arith, length-take nameSize (l ++ replicate nameSize 0), length-append l (replicate nameSize 0), length-replicate {A = ℕ} nameSize 0)
+
+init-size : initSize ≤ sizeTop
+unfolding initSize sizeTop trapframe trampoline pageSize slotCount
+init-size = omega arith
 
 module _ (t : Table) (w : Sound t) where
   vacant : (s : ℕ) → s < length (t .core .slots) → is UNUSED (at (t .core) s) ≡ true → Vacant (spent t) s
@@ -102,7 +115,7 @@ module _ (t : Table) (w : Sound t) where
   booted-ends =
       refuseIf-any (Ended boot t) _ InitOutOfTurn t _ (refused InitOutOfTurn refl refl) λ e.
       taking-any (Ended boot t) t _ (refused PidsSpent refl refl) (λ l. spentOn TableFull refl refl l) λ s l r u.
-      granted _ _ (refl, unfold setInit openGroup in refl) (more (one (spending l)) (filling s _ _ _ (vacant t w s r u) (ofInit e initSize) (padded-short _)))
+      granted _ _ (refl, unfold setInit openGroup in refl) (more (one (spending l)) (filling s _ _ _ (vacant t w s r u) (ofInit e initSize init-size) (padded-long _)))
 
   started-ends : Ended start t (started t)
   unfolding started startedAt moves onCore mayGive among spendsPid forks numberOf
@@ -119,7 +132,7 @@ module _ (t : Table) (w : Sound t) where
       refuseIf-any (Ended (spawn name entry) t) _ NameTooLong t _ (refused NameTooLong refl refl) λ _.
       taking-any (Ended (spawn name entry) t) t _ (refused PidsSpent refl refl) (λ l. spentOn TableFull refl refl l) λ s l r u.
       granted _ _ (refl, refl)
-      (more (more (one (spending l)) (filling s _ _ _ (vacant t w s r u) ofSystem (padded-short name))) (publishing s (inl (filled s _ _ _ (t .core) r))))
+      (more (more (one (spending l)) (filling s _ _ _ (vacant t w s r u) ofSystem (padded-long name))) (publishing s (inl (filled s _ _ _ (t .core) r))))
 
   systemReturned-ends : (h : ℕ) → Ended (systemReturn h) t (systemReturned t h)
   unfolding systemReturned systemReturnedBy onCore reap mayGive among spendsPid forks numberOf
@@ -137,7 +150,7 @@ module _ (t : Table) (w : Sound t) where
       taking-any (Ended (fork h memory) t) t _ (refused PidsSpent refl refl) (λ l. spentOn TableFull refl refl l) λ c l r u.
       refuseIf-any (Ended (fork h memory) t) _ NoMemory (spent t) _ (spentOn NoMemory refl refl l) λ _.
       granted _ _ (refl, unfold openGroup in refl)
-      (more (more (one (spending l)) (filling c _ _ _ (vacant t w c r u) (ofChild (after t w h s e g m) s _) (w .tidy s .name)))
+      (more (more (one (spending l)) (filling c _ _ _ (vacant t w c r u) (ofChild (after t w h s e g m) s _ (w .counted .top g)) (w .tidy s .name)))
       (publishing c (inl (filled c _ _ _ (t .core) r))))
 
   threaded-ends : (h : ℕ) (a : ThreadAsk) (p : Mapped) → Ended (thread h a p) t (threaded t h a p)
@@ -168,7 +181,7 @@ module _ (t : Table) (w : Sound t) where
 
       go : (q : List ℕ) → t .core .queue ≡ q → h < hartCount → hartAt (t .core) h ≡ Nobody → Ended (dispatch h) t (handNext t h q)
       go [] e r i = refused QueueEmpty refl refl
-      go (s ∷ rest) e r i = handed h s rest e r i
+      go (s ∷ rest) e r i = handed h s rest refl e r i
 
   yielded-ends : (h : ℕ) → Ended (yield h) t (yielded t h)
   unfolding yielded moves onCore mayGive among spendsPid forks numberOf
@@ -243,9 +256,9 @@ module _ (t : Table) (w : Sound t) where
           apart f = clash (rw (← f) at (and-right (threadOf (In g) (at (t .core) i)) (eqb (at (t .core) i .meta .pid .0) (p .0)) n)) own
 
   -- ---- the ways out
-  leaderExited-ends : (c : Call) (h x s : ℕ) → runs t h s → at (t .core) s .kin .thread ≡ false → isSlot s (t .books .init) ≡ false → Ended c t (leaderExited t h x s)
+  leaderExited-ends : (c : Call) (h x s : ℕ) → runs t h s → at (t .core) s .kin .thread ≡ false → at (t .core) s .kin .system ≡ false → isSlot s (t .books .init) ≡ false → Ended c t (leaderExited t h x s)
   unfolding leaderExited exitedPast moves onCore
-  leaderExited-ends c h x s e y n = go (lowest (threadOf m) (u .core .slots)) refl
+  leaderExited-ends c h x s e y v n = go (lowest (threadOf m) (u .core .slots)) refl
     where
       m : Member
       m = at (t .core) s .kin .group
@@ -270,26 +283,26 @@ module _ (t : Table) (w : Sound t) where
           let live : is ZOMBIE (at (u .core) i) ≡ false = unfold Settled in reapThreads-settled m t (w .queued .tall) i o in
           granted Blocked _ (spared .pids)
           (chained reaping (blocked-chain u sound h s there i (rw (spared .slot) y) (rw (spared .slot) (lowest-passes (threadOf m) (u .core .slots) free i o)) live))
-      go none o = granted Done _ (spared .pids) (chained reaping (leader-chain u sound h s there x (rw (spared .slot) y) (rw (spared .init) n)))
+      go none o = granted Done _ (spared .pids) (chained reaping (leader-chain u sound h s there x (rw (spared .slot) y) (rw (spared .slot) v) (rw (spared .init) n)))
 
   exited-ends : (h x : ℕ) → Ended (exit h x) t (exited t h x)
   unfolding exited exitedBy mayGive among spendsPid forks numberOf
   exited-ends h x =
       onHart-any (Ended (exit h x) t) t h _ (refused NoSuchHart refl refl) (refused HartIdle refl refl) λ s e.
       refuseIf-any (Ended (exit h x) t) _ WrongWayOut t _ (refused WrongWayOut refl refl) λ f.
-      leaderExited-ends (exit h x) h x s e (or-right (isSlot s (t .books .init) || at (t .core) s .kin .system) _ f) (or-left _ _ (or-left _ _ f))
+      leaderExited-ends (exit h x) h x s e (or-right (isSlot s (t .books .init) || at (t .core) s .kin .system) _ f) (or-right (isSlot s (t .books .init)) _ (or-left _ _ f)) (or-left _ _ (or-left _ _ f))
 
   threadExited-ends : (h x : ℕ) → Ended (threadExit h x) t (threadExited t h x)
   unfolding threadExited threadExitedBy threadEnded moves onCore mayGive among spendsPid forks numberOf
   threadExited-ends h x =
       onHart-any (Ended (threadExit h x) t) t h _ (refused NoSuchHart refl refl) (refused HartIdle refl refl) λ s e.
       refuseIf-any (Ended (threadExit h x) t) _ WrongWayOut t _ (refused WrongWayOut refl refl) λ f.
-      go s e (or-left _ _ f) (at (t .core) s .kin .thread) refl
+      go s e (or-right (isSlot s (t .books .init)) _ f) (or-left _ _ f) (at (t .core) s .kin .thread) refl
     where
-      go : (s : ℕ) → runs t h s → isSlot s (t .books .init) ≡ false → (b : Bool) → at (t .core) s .kin .thread ≡ b
+      go : (s : ℕ) → runs t h s → at (t .core) s .kin .system ≡ false → isSlot s (t .books .init) ≡ false → (b : Bool) → at (t .core) s .kin .thread ≡ b
           → Ended (threadExit h x) t (cond b (threadEnded t h x s) (leaderExited t h x s))
-      go s e n true y = granted Done _ refl (thread-chain t w h s e x y n)
-      go s e n false y = leaderExited-ends (threadExit h x) h x s e y n
+      go s e v n true y = granted Done _ refl (thread-chain t w h s e x y v n)
+      go s e v n false y = leaderExited-ends (threadExit h x) h x s e y v n
 
   -- ---- grow
   grown-ends : (h : ℕ) (d : ℤ) (memory : Bool) → Ended (grow h d memory) t (grown t h d memory)
@@ -297,9 +310,9 @@ module _ (t : Table) (w : Sound t) where
   grown-ends h d memory =
       onHart-any (Ended (grow h d memory) t) t h _ (refused NoSuchHart refl refl) (refused HartIdle refl refl) λ s e.
       inGroup-any (Ended (grow h d memory) t) t s _ (refused NoGroup refl refl) λ g m.
-      found-any (Ended (grow h d memory) t) SizeOutOfLimits t _ _ (refused SizeOutOfLimits refl refl) λ n _.
+      found-any (Ended (grow h d memory) t) SizeOutOfLimits t _ _ (refused SizeOutOfLimits refl refl) λ n o.
       refuseIf-any (Ended (grow h d memory) t) _ NoMemory t _ (refused NoMemory refl refl) λ _.
-      granted Done _ refl (one (resizing g n s (runs-range h s (t .core) (w .queued) e) (names-own t w h s e g m)))
+      granted Done _ refl (one (resizing g n s (within-top _ n o) (runs-range h s (t .core) (w .queued) e) (names-own t w h s e g m)))
 
   pub step-ends : (c : Call) → Ended c t (step t c)
   unfolding step

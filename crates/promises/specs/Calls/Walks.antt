@@ -8,13 +8,13 @@ use mathlib.Core.Option.{Option, none, some}
 use lib.ListN.{length}
 use lib.Seq.{getD-set-other}
 use Rattle.promises.specs.Types.{UNUSED, SLEEPING, ZOMBIE, Parent, Nobody, Of, Member, Kin}
-use Rattle.rules.specs.Sizes.{slotCount, ownChannel}
+use Rattle.rules.specs.Sizes.{slotCount}
 use Rattle.rules.specs.Model.{Core, Table, at, free, is, isSlot, known, onMeta, asKilled, withParent}
 use Rattle.rules.specs.Moves.{change, publish, sweep, lowest, publishIf, sleepsOn, wakeOne, wake, wakeOf, slay, handOver, reparent, reap}
 use Rattle.rules.specs.Calls.{threadOf, reapIfZombie, reapFirst, reapThreads}
 use Rattle.promises.specs.Laws.Lists.{and-left, clash, rel-set, ind, tally, tally-set, tally-le, tally-one}
 use Rattle.promises.specs.Order.Books.{leave-init, leave-pids}
-use Rattle.promises.specs.Laws.Scans.{lowest-passes, lowest-range, sweep-keeps}
+use Rattle.promises.specs.Laws.Scans.{wakeOf-any, lowest-passes, lowest-range, sweep-keeps}
 use Rattle.promises.specs.Order.Sound.{Sound}
 use Rattle.promises.specs.Order.Wakes.{Calm, calm-same, calm-then, calm-set, publish-calm, wake-calm}
 use Rattle.promises.specs.Order.Chains.{onCore, publishing, marking, adopting, freeing, Chain, none, one, chained}
@@ -32,9 +32,8 @@ wake-chain t ch w = chain-steps (λ n. onCore (sweep (wakeOne ch) n) t) w
     (λ i _. publishIf-chain (onCore (sweep (wakeOne ch) i) t) i _ (λ e. and-left _ _ e)) slotCount
 
 pub wakeOf-chain : (t : Table) (p : Parent) → Sound t → Chain t (onCore (wakeOf p) t)
-unfolding wakeOf onCore
-wakeOf-chain t Nobody w = none
-wakeOf-chain t (Of s) w = wake-chain t (ownChannel (s .0)) w
+unfolding onCore
+wakeOf-chain t p w = wakeOf-any (λ (d : Core). Chain t (record { core = d; books = t .books })) (t .core) none (λ ch. wake-chain t ch w) p
 
 pub wake-harts : (ch : ℕ) (c : Core) → wake ch c .harts ≡ c .harts
 unfolding wake wakeOne publishIf publish change
@@ -45,14 +44,10 @@ wake-harts ch c = sweep-keeps (λ (d : Core). d .harts ≡ c .harts) (wakeOne ch
     go s d e false = e
 
 pub wakeOf-harts : (p : Parent) (c : Core) → wakeOf p c .harts ≡ c .harts
-unfolding wakeOf
-wakeOf-harts Nobody c = refl
-wakeOf-harts (Of s) c = wake-harts (ownChannel (s .0)) c
+wakeOf-harts p c = wakeOf-any (λ (d : Core). d .harts ≡ c .harts) c refl (λ ch. wake-harts ch c) p
 
 pub wakeOf-calm : (p : Parent) (c : Core) (j : ℕ) → Calm (at c j) (at (wakeOf p c) j)
-unfolding wakeOf
-wakeOf-calm Nobody c j = calm-same (at c j)
-wakeOf-calm (Of s) c j = wake-calm (ownChannel (s .0)) c j
+wakeOf-calm p c j = wakeOf-any (λ (d : Core). Calm (at c j) (at d j)) c (calm-same (at c j)) (λ ch. wake-calm ch c j) p
 
 -- ---- kill
 -- the mark moves no state

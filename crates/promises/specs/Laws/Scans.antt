@@ -7,7 +7,10 @@ use mathlib.Core.Bool.{Bool, true, false}
 use mathlib.Core.List.{List, [], _∷_}
 use mathlib.Core.Option.{Option, none, some}
 use lib.ListN.{length, getD}
-use Rattle.rules.specs.Moves.{firstFrom, lowest, sweep}
+use Rattle.promises.specs.Types.{Parent, Nobody, Of}
+use Rattle.rules.specs.Sizes.{ownChannel}
+use Rattle.rules.specs.Model.{Core}
+use Rattle.rules.specs.Moves.{firstFrom, lowest, sweep, wake, wakeOf}
 
 -- what a scan finds is in range, and passes
 record Hit {A : Type 0} (test : A → Bool) (l : List A) (d : A) (k i : ℕ) : Type 0 where
@@ -56,3 +59,9 @@ pub sweep-keeps : {A : Type 0} (I : A → Type 0) (f : ℕ → A → A) → ((i 
 unfolding sweep
 sweep-keeps I f k zero a v = v
 sweep-keeps I f k (suc n) a v = k n (sweep f n a) (sweep-keeps I f k n a v)
+
+-- what a wake keeps, whoever is woken, the wake of a slot keeps, if there is one
+pub wakeOf-any : (I : Core → Type 0) (c : Core) → I c → ((ch : ℕ) → I (wake ch c)) → (p : Parent) → I (wakeOf p c)
+unfolding wakeOf
+wakeOf-any I c v k Nobody = v
+wakeOf-any I c v k (Of s) = k (ownChannel (s .0))

@@ -1,16 +1,16 @@
 -- What most moves leave alone of every slot: its pid, its group, and whether it is used. With that, a move is one of five kinds.
-use Prim.Native.Nat.{ℕ, _<_}
+use Prim.Native.Nat.{ℕ, _≤_, _<_}
 use mathlib.Core.Path.{_≡_, refl, sym, _∙_}
 use mathlib.Core.Bool.{Bool, true, false}
 use mathlib.Core.List.{List}
 use lib.ListN.{length, getD, set, length-set}
-use Rattle.promises.specs.Types.{UNUSED, RUNNABLE, SLEEPING, ZOMBIE, Parent, Nobody, Of, Process, Kin, Start}
-use Rattle.rules.specs.Sizes.{slotCount, pidTop, ownChannel}
+use Rattle.promises.specs.Types.{UNUSED, RUNNABLE, SLEEPING, ZOMBIE, Parent, Process, Kin, Start}
+use Rattle.rules.specs.Sizes.{slotCount, pidTop, sizeTop}
 use Rattle.rules.specs.Model.{Core, Books, Table, at, free, taken, is, onMeta, asRunning, asSleeping, asZombie, asKilled, withParent}
 use Rattle.rules.specs.Moves.{change, publish, hand, idle, yieldOn, sleepOn, zombieOn, publishIf, sleepsOn, wakeOne, wake, wakeOf, resize, reap}
 use Rattle.rules.specs.Calls.{fill, spent}
 use Rattle.promises.specs.Laws.Lists.{and-left, rel-set}
-use Rattle.promises.specs.Laws.Scans.{sweep-keeps}
+use Rattle.promises.specs.Laws.Scans.{wakeOf-any, sweep-keeps}
 use Rattle.promises.specs.Order.Sound.{names, Queued}
 use Rattle.promises.specs.Order.States.{other, quiet, runs-used}
 use Rattle.promises.specs.Order.Chains.{onCore, Vacant, Birth, Move, publishing, yielding, sleeping, dying, marking, adopting, spending, filling, freeing, returning, resizing}
@@ -59,15 +59,11 @@ wake-alikes ch c = sweep-keeps (λ (d : Core). Alikes (c .slots) (d .slots)) (wa
 
 -- a slot gets another parent, and somebody is woken
 adopt-alikes : (q : Parent) (i : ℕ) (c : Core) → Alikes (c .slots) (wakeOf q (change (withParent q) i c) .slots)
-unfolding wakeOf change
-adopt-alikes q i c = go q
+unfolding change
+adopt-alikes q i c = wakeOf-any (λ (d : Core). Alikes (c .slots) (d .slots)) (change (withParent q) i c) first (λ ch. alikes-then first (wake-alikes ch (change (withParent q) i c))) q
   where
     first : Alikes (c .slots) (change (withParent q) i c .slots)
     first = alikes-set (c .slots) i (withParent q (at c i)) (record { pid = refl; group = refl; used = refl })
-
-    go : (x : Parent) → Alikes (c .slots) (wakeOf x (change (withParent q) i c) .slots)
-    go Nobody = first
-    go (Of s) = alikes-then first (wake-alikes (ownChannel (s .0)) (change (withParent q) i c))
 
 -- a move, as pids and groups see it
 pub data View (t : Table) : Table → Type 0 where
@@ -76,7 +72,7 @@ pub data View (t : Table) : Table → Type 0 where
   fills : (s : ℕ) (k : Kin) (b : Start) (d : Books) → Vacant t s → Birth t s k d
       → View t (record { core = fill s (taken (t .books .pids) k b) (t .core); books = d })
   frees : (s : ℕ) (c : Core) → c .slots ≡ t .core .slots → is UNUSED (at c s) ≡ false → View t (reap s (record { core = c; books = t .books }))
-  resizes : (g n j : ℕ) → j < length (t .core .slots) → names g (at (t .core) j) ≡ true → View t (record { core = t .core; books = resize g n (t .books) })
+  resizes : (g n j : ℕ) → n ≤ sizeTop → j < length (t .core .slots) → names g (at (t .core) j) ≡ true → View t (record { core = t .core; books = resize g n (t .books) })
 
 pub view : {t u : Table} → Queued (t .core) → Move t u → View t u
 unfolding onCore sleepOn zombieOn yieldOn idle change
@@ -90,7 +86,7 @@ view v (spending r) = spends r
 view v (filling s k b d w y _) = fills s k b d w y
 view v (freeing {t} s z) = frees s (t .core) refl (other ZOMBIE UNUSED (at (t .core) s) z)
 view v (returning {t} h s e _) = frees s (idle h (t .core)) refl (runs-used h s (t .core) v e)
-view v (resizing g n j r e) = resizes g n j r e
+view v (resizing g n j l r e) = resizes g n j l r e
 
 pub hand-view : (t : Table) (h s : ℕ) (rest : List ℕ) → is RUNNABLE (at (t .core) s) ≡ true → View t (onCore (hand h s rest) t)
 unfolding onCore hand change

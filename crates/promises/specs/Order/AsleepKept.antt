@@ -249,4 +249,4 @@ move-asleep v o w (freeing {t} s z) =
     fresh-kept (t .core) _ s free (replaced (t .core) _ s free refl (used-range (t .core .slots) s (other ZOMBIE UNUSED (at (t .core) s) z))) refl refl (λ q l. clash z (l .live)) w
 move-asleep v o w (returning {t} h s e y) =
     fresh-kept (t .core) _ s free (replaced (t .core) _ s free refl (runs-range h s (t .core) v e)) refl refl (λ q l. clash (lives-thread q _ l) (o s .lone y .2)) w
-move-asleep v o w (resizing _ _ _ _ _) = w
+move-asleep v o w (resizing _ _ _ _ _ _) = w

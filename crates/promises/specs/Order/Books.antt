@@ -22,7 +22,7 @@ reap-pids s t = leave-pids (at (t .core) s .kin .group) (t .books)
 
 pub birth-pids : {t : Table} {s : ℕ} {k : Kin} {d : Books} → Birth t s k d → d .pids ≡ t .books .pids
 unfolding setInit openGroup joinGroup
-birth-pids (ofInit _ _) = refl
+birth-pids (ofInit _ _ _) = refl
 birth-pids ofSystem = refl
-birth-pids (ofChild _ _ _) = refl
+birth-pids (ofChild _ _ _ _) = refl
 birth-pids (ofThread _ _ _ _ _ _ _) = refl

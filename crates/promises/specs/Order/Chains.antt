@@ -5,7 +5,7 @@ use mathlib.Core.Logic.{_≢_, _⊎_}
 use mathlib.Core.Bool.{true, false}
 use lib.ListN.{length}
 use Rattle.promises.specs.Types.{UNUSED, ALLOCATED, SLEEPING, ZOMBIE, Parent, Nobody, Of, Alone, In, Kin, Start}
-use Rattle.rules.specs.Sizes.{pidTop, nameSize, ownChannel, firstDevice}
+use Rattle.rules.specs.Sizes.{pidTop, nameSize, sizeTop, ownChannel, firstDevice}
 use Rattle.rules.specs.Model.{Core, Books, Table, at, hartAt, is, isSlot, known, slot, taken, onMeta, asKilled, withParent}
 use Rattle.rules.specs.Moves.{change, publish, idle, yieldOn, sleepOn, zombieOn, sleepsOn, wakeOf, newGroup, openGroup, joinGroup, resize, setInit, reap}
 use Rattle.rules.specs.Calls.{zombieChildOf, fill, spent}
@@ -27,6 +27,7 @@ pub data Bed (t : Table) (s : ℕ) : ℕ → Type 0 where
 -- when a caller s may become ZOMBIE: whoever should know is awake
 pub record Farewell (t : Table) (s : ℕ) : Type 0 where
   pub mortal : isSlot s (t .books .init) ≡ false
+  pub user : at (t .core) s .kin .system ≡ false
   pub joiners : at (t .core) s .kin .thread ≡ true → (j : ℕ) → sleepsOn (ownChannel s) (at (t .core) j) ≡ false
   pub parent : at (t .core) s .kin .thread ≡ false → (q : ℕ) → isSlot q (at (t .core) s .kin .parent) ≡ true → sleepsOn (ownChannel q) (at (t .core) q) ≡ false
 
@@ -39,10 +40,10 @@ pub record Vacant (t : Table) (s : ℕ) : Type 0 where
 
 -- who may be born into slot s, and what becomes of the books
 pub data Birth (t : Table) (s : ℕ) : Kin → Books → Type 0 where
-  ofInit : known (t .books .init) ≡ false → (size : ℕ)
+  ofInit : known (t .books .init) ≡ false → (size : ℕ) → size ≤ sizeTop
       → Birth t s (record { group = In (newGroup (t .books)); parent = Nobody; thread = false; system = false }) (setInit s (openGroup size (t .books)))
   ofSystem : Birth t s (record { group = Alone; parent = Nobody; thread = false; system = true }) (t .books)
-  ofChild : known (t .books .init) ≡ true → (q size : ℕ)
+  ofChild : known (t .books .init) ≡ true → (q size : ℕ) → size ≤ sizeTop
       → Birth t s (record { group = In (newGroup (t .books)); parent = Of (slot q); thread = false; system = false }) (openGroup size (t .books))
   ofThread : known (t .books .init) ≡ true → (g : ℕ) (q : Parent) → known q ≡ true → (j : ℕ) → j < length (t .core .slots) → names g (at (t .core) j) ≡ true
       → Birth t s (record { group = In g; parent = q; thread = true; system = false }) (joinGroup g (t .books))
@@ -58,11 +59,11 @@ pub data Move : Table → Table → Type 0 where
   adopting : {t : Table} (i : ℕ) → known (at (t .core) i .kin .parent) ≡ true
       → Move t (onCore (λ c. wakeOf (t .books .init) (change (withParent (t .books .init)) i c)) t)
   spending : {t : Table} → t .books .pids < pidTop → Move t (spent t)
-  filling : {t : Table} (s : ℕ) (k : Kin) (b : Start) (d : Books) → Vacant t s → Birth t s k d → length (b .name) ≤ nameSize
+  filling : {t : Table} (s : ℕ) (k : Kin) (b : Start) (d : Books) → Vacant t s → Birth t s k d → length (b .name) ≡ nameSize
       → Move t (record { core = fill s (taken (t .books .pids) k b) (t .core); books = d })
   freeing : {t : Table} (s : ℕ) → is ZOMBIE (at (t .core) s) ≡ true → Move t (reap s t)
   returning : {t : Table} (h s : ℕ) → runs t h s → at (t .core) s .kin .system ≡ true → Move t (reap s (onCore (idle h) t))
-  resizing : {t : Table} (g n j : ℕ) → j < length (t .core .slots) → names g (at (t .core) j) ≡ true
+  resizing : {t : Table} (g n j : ℕ) → n ≤ sizeTop → j < length (t .core .slots) → names g (at (t .core) j) ≡ true
       → Move t (record { core = t .core; books = resize g n (t .books) })
 
 pub data Chain : Table → Table → Type 0 where

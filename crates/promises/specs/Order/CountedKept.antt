@@ -11,7 +11,7 @@ use lib.Seq.{getD-set-same, getD-set-other}
 use lib.Dec.{eqb, leb}
 use borrow.Author.Tests.{eqb-true, eqb-false, eq-eqb, ne-eqb, leb-true, leb-false}
 use Rattle.promises.specs.Types.{UNUSED, Member, Alone, In, Process, Kin, Group}
-use Rattle.rules.specs.Sizes.{slotCount, groupCount}
+use Rattle.rules.specs.Sizes.{slotCount, groupCount, sizeTop}
 use Rattle.rules.specs.Model.{Core, Books, Table, at, groupAt, noGroup, free, taken, is, sameGroup}
 use Rattle.rules.specs.Moves.{change, lowest, setGroup, emptyGroup, orZero, newGroup, openGroup, joinGroup, less, leaveGroup, resize, setInit, spend, toFree, reap}
 use Rattle.rules.specs.Calls.{fill, spent}
@@ -90,11 +90,12 @@ counted-alike c d b k w = record {
   tall = w .tall;
   count = λ g. w .count g ∙ sym (tally-same (names g) (d .slots) (c .slots) free (k .long) (λ j. ap (sameGroup (In g)) (k .all j .group)));
   empty = w .empty;
+  top = w .top;
 }
 
 -- group g is set to x, and only its count may have moved
 module _ (c d : Core) (b : Books) (g : ℕ) (x : Group) (r : g < length (b .groups)) (e : x .count ≡ tally (names g) (d .slots))
-    (others : (h : ℕ) → h ≢ g → tally (names h) (d .slots) ≡ tally (names h) (c .slots)) (z : x .count ≡ 0 → x .size ≡ 0) (w : Counted c b) where
+    (others : (h : ℕ) → h ≢ g → tally (names h) (d .slots) ≡ tally (names h) (c .slots)) (z : x .count ≡ 0 → x .size ≡ 0) (m : x .size ≤ sizeTop) (w : Counted c b) where
   put-same : groupAt (setGroup g x b) g ≡ x
   put-same = getD-set-same (b .groups) g x noGroup r
 
@@ -103,6 +104,7 @@ module _ (c d : Core) (b : Books) (g : ℕ) (x : Group) (r : g < length (b .grou
     tall = length-set (b .groups) g x ∙ w .tall;
     count = λ h. go h (eqb h g) refl;
     empty = λ h. zero h (eqb h g) refl;
+    top = λ h. most h (eqb h g) refl;
   }
     where
       other : (h : ℕ) → eqb h g ≡ false → groupAt (setGroup g x b) h ≡ groupAt b h
@@ -115,6 +117,10 @@ module _ (c d : Core) (b : Books) (g : ℕ) (x : Group) (r : g < length (b .grou
       zero : (h : ℕ) (t : Bool) → eqb h g ≡ t → groupAt (setGroup g x b) h .count ≡ 0 → groupAt (setGroup g x b) h .size ≡ 0
       zero h true t = rw (eqb-true h g t, put-same) z
       zero h false t = rw (other h t) (w .empty h)
+
+      most : (h : ℕ) (t : Bool) → eqb h g ≡ t → groupAt (setGroup g x b) h .size ≤ sizeTop
+      most h true t = rw (eqb-true h g t, put-same) m
+      most h false t = rw (other h t) (w .top h)
 
 -- slot s is replaced by y: how the counts move
 module _ (c : Core) (s : ℕ) (y : Process) (r : s < length (c .slots)) (a b : Member) (old : at c s .kin .group ≡ a) (new : y .kin .group ≡ b) where
@@ -132,17 +138,18 @@ counted-alone c d b s y q r old new w = record {
   tall = w .tall;
   count = λ h. rw q (omega (arith, w .count h, moved c s y r Alone Alone old new h));
   empty = w .empty;
+  top = w .top;
 }
 
 -- a slot in no group comes to group g, whose count goes up by one
 counted-in : (c : Core) (b : Books) (s : ℕ) (p : Process) (g : ℕ) (x : Group) → s < length (c .slots) → at c s .kin .group ≡ Alone → p .kin .group ≡ In g → g < length (b .groups)
-    → x .count ≡ groupAt b g .count + 1 → Counted c b → Counted (fill s p c) (setGroup g x b)
+    → x .count ≡ groupAt b g .count + 1 → x .size ≤ sizeTop → Counted c b → Counted (fill s p c) (setGroup g x b)
 unfolding fill change
-counted-in c b s p g x r old new q e w = counted-put c (fill s p c) b g x q
+counted-in c b s p g x r old new q e m w = counted-put c (fill s p c) b g x q
     (omega (arith, e, w .count g, moved c s p r Alone (In g) old new g, ap ind (eq-eqb g g refl)))
     (λ h n. omega (arith, moved c s p r Alone (In g) old new h, ap ind (ne-eqb h g n)))
     (λ z. absurd (omega (arith, e)))
-    w
+    m w
 
 less-count : (x : Group) → less x .count ≡ x .count - 1
 less-count x = go (leb (x .count) 1) refl
@@ -159,6 +166,13 @@ less-empty x = go (leb (x .count) 1) refl
     go true e z = refl
     go false e z = absurd (omega (arith, leb-false (x .count) 1 e))
 
+less-top : (x : Group) → x .size ≤ sizeTop → less x .size ≤ sizeTop
+less-top x m = go (leb (x .count) 1)
+  where
+    go : (t : Bool) → cond {A = Group} t noGroup (record { size = x .size; count = x .count - 1 }) .size ≤ sizeTop
+    go true = omega arith
+    go false = m
+
 -- a slot is freed, and leaves its group
 counted-free : (c : Core) (b : Books) (s : ℕ) → s < length (c .slots) → Counted c b → Counted (change toFree s c) (leaveGroup (at c s .kin .group) b)
 unfolding leaveGroup change
@@ -171,31 +185,31 @@ counted-free c b s r w = go (at c s .kin .group) refl
         counted-put c (change toFree s c) b g (less (groupAt b g)) (named-range c b w s g r name)
         (omega (arith, less-count (groupAt b g), w .count g, moved c s free r (In g) Alone e free-alone g, ap ind (eq-eqb g g refl)))
         (λ h n. omega (arith, moved c s free r (In g) Alone e free-alone h, ap ind (ne-eqb h g n)))
-        (less-empty (groupAt b g)) w
+        (less-empty (groupAt b g)) (less-top (groupAt b g) (w .top g)) w
 
 -- ---- births
 module _ (t : Table) (tall : length (t .core .slots) ≡ slotCount) (w : Counted (t .core) (t .books)) (s : ℕ) (r : s < length (t .core .slots)) (alone : at (t .core) s .kin .group ≡ Alone) where
-  open-counted : (p : Process) (size : ℕ) → p .kin .group ≡ In (newGroup (t .books)) → Counted (fill s p (t .core)) (openGroup size (t .books))
+  open-counted : (p : Process) (size : ℕ) → size ≤ sizeTop → p .kin .group ≡ In (newGroup (t .books)) → Counted (fill s p (t .core)) (openGroup size (t .books))
   unfolding openGroup
-  open-counted p size e =
+  open-counted p size m e =
       let h = group-had (t .core) (t .books) s w tall r alone in
-      counted-in (t .core) (t .books) s p (newGroup (t .books)) (record { size = size; count = 1 }) r alone e (h .range) (omega (arith, h .empty)) w
+      counted-in (t .core) (t .books) s p (newGroup (t .books)) (record { size = size; count = 1 }) r alone e (h .range) (omega (arith, h .empty)) m w
 
   birth-counted : {k : Kin} {d : Books} → Birth t s k d → (p : Process) → p .kin ≡ k → Counted (fill s p (t .core)) d
   unfolding setInit joinGroup fill change
-  birth-counted (ofInit _ size) p e = let o = open-counted p size (ap (λ (k : Kin). k .group) e) in record { tall = o .tall; count = o .count; empty = o .empty }
+  birth-counted (ofInit _ size m) p e = let o = open-counted p size m (ap (λ (k : Kin). k .group) e) in record { tall = o .tall; count = o .count; empty = o .empty; top = o .top }
   birth-counted ofSystem p e = counted-alone (t .core) (fill s p (t .core)) (t .books) s p refl r alone (ap (λ (k : Kin). k .group) e) w
-  birth-counted (ofChild _ _ size) p e = open-counted p size (ap (λ (k : Kin). k .group) e)
+  birth-counted (ofChild _ _ size m) p e = open-counted p size m (ap (λ (k : Kin). k .group) e)
   birth-counted (ofThread _ g _ _ j q n) p e =
-      counted-in (t .core) (t .books) s p g _ r alone (ap (λ (k : Kin). k .group) e) (named-range (t .core) (t .books) w j g q n) refl w
+      counted-in (t .core) (t .books) s p g _ r alone (ap (λ (k : Kin). k .group) e) (named-range (t .core) (t .books) w j g q n) refl (w .top g) w
 
 pub view-counted : {t u : Table} → length (t .core .slots) ≡ slotCount → ((s : ℕ) → is UNUSED (at (t .core) s) ≡ true → at (t .core) s ≡ free)
     → Counted (t .core) (t .books) → View t u → Counted (u .core) (u .books)
 unfolding spent spend reap taken resize
 view-counted {t} tall f w (stirs c k) = counted-alike (t .core) c (t .books) k w
-view-counted {t} tall f w (spends r) = record { tall = w .tall; count = w .count; empty = w .empty }
+view-counted {t} tall f w (spends r) = record { tall = w .tall; count = w .count; empty = w .empty; top = w .top }
 view-counted {t} tall f w (fills s k b d x y) =
     birth-counted t tall w s (x .range) (ap (λ (p : Process). p .kin .group) (f s (x .unused)) ∙ free-alone) y (taken (t .books .pids) k b) refl
-view-counted {t} tall f w (frees s c e u) = counted-free c (t .books) s (used-range (c .slots) s u) (rw e (record { tall = w .tall; count = λ g. w .count g; empty = w .empty }))
-view-counted {t} tall f w (resizes g n j r e) = counted-put (t .core) (t .core) (t .books) g (record { size = n; count = groupAt (t .books) g .count })
-    (named-range (t .core) (t .books) w j g r e) (w .count g) (λ h _. refl) (λ z. absurd (omega (arith, named-counts (t .core) (t .books) w j g r e))) w
+view-counted {t} tall f w (frees s c e u) = counted-free c (t .books) s (used-range (c .slots) s u) (rw e (record { tall = w .tall; count = λ g. w .count g; empty = w .empty; top = w .top }))
+view-counted {t} tall f w (resizes g n j l r e) = counted-put (t .core) (t .core) (t .books) g (record { size = n; count = groupAt (t .books) g .count })
+    (named-range (t .core) (t .books) w j g r e) (w .count g) (λ h _. refl) (λ z. absurd (omega (arith, named-counts (t .core) (t .books) w j g r e))) l w

@@ -3,12 +3,12 @@ use Prim.Native.Nat.{ℕ, zero, suc, _<_}
 use mathlib.Core.Path.{_≡_, refl, sym, ap, _∙_, subst}
 use mathlib.Core.Bool.{Bool, true, false}
 use mathlib.Core.List.{List, [], _∷_, _++_, append-assoc, append-nil}
-use Rattle.promises.specs.Types.{RUNNABLE, Parent, Nobody, Of}
-use Rattle.rules.specs.Sizes.{slotCount, hartCount, ownChannel}
+use Rattle.promises.specs.Types.{RUNNABLE, Parent, Nobody}
+use Rattle.rules.specs.Sizes.{slotCount, hartCount}
 use Rattle.rules.specs.Model.{Core, Table, at, hartAt, is}
 use Rattle.rules.specs.Moves.{change, publish, hand, idle, yieldOn, sleepOn, zombieOn, publishIf, sleepsOn, wakeOne, wake, wakeOf, reap}
 use Rattle.rules.specs.Calls.{fill, spent}
-use Rattle.promises.specs.Laws.Scans.{sweep-keeps}
+use Rattle.promises.specs.Laws.Scans.{wakeOf-any, sweep-keeps}
 use Rattle.promises.specs.Order.Sound.{Sound}
 use Rattle.promises.specs.Order.States.{head-ready}
 use Rattle.promises.specs.Order.Chains.{onCore, Move, publishing, yielding, sleeping, dying, marking, adopting, spending, filling, freeing, returning, resizing, Chain, none, more, chained}
@@ -71,9 +71,7 @@ wake-grows ch c = sweep-keeps (λ (d : Core). Grows (c .queue) (d .queue)) (wake
     go s d w false = w
 
 wakeOf-grows : (p : Parent) (c : Core) → Grows (c .queue) (wakeOf p c .queue)
-unfolding wakeOf
-wakeOf-grows Nobody c = same (c .queue)
-wakeOf-grows (Of s) c = wake-grows (ownChannel (s .0)) c
+wakeOf-grows p c = wakeOf-any (λ (d : Core). Grows (c .queue) (d .queue)) c (same (c .queue)) (λ ch. wake-grows ch c) p
 
 move-grows : {t u : Table} → Move t u → Grows (t .core .queue) (u .core .queue)
 unfolding onCore yieldOn sleepOn zombieOn idle publish change spent fill reap
@@ -87,7 +85,7 @@ move-grows (spending {t} _) = same (t .core .queue)
 move-grows (filling {t} s k b d _ _ _) = same (t .core .queue)
 move-grows (freeing {t} s _) = same (t .core .queue)
 move-grows (returning {t} h s _ _) = same (t .core .queue)
-move-grows (resizing {t} _ _ _ _ _) = same (t .core .queue)
+move-grows (resizing {t} _ _ _ _ _ _) = same (t .core .queue)
 
 pub chain-grows : {t u : Table} → Chain t u → Grows (t .core .queue) (u .core .queue)
 chain-grows {t} none = same (t .core .queue)

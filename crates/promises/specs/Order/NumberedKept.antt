@@ -81,4 +81,4 @@ view-numbered {t} w (stirs c k) = numbered-alike (t .core) c (t .books .pids) k 
 view-numbered {t} w (spends r) = record { low = w .low; high = λ s. omega (arith, w .high s); once = w .once; top = omega (arith, r) }
 view-numbered {t} w (fills s k b d x y) = rw (birth-pids y) (numbered-fill s (taken (t .books .pids) k b) (t .core) (t .books .pids) refl (x .positive) (x .new) w)
 view-numbered {t} w (frees s c e _) = rw (leave-pids (at c s .kin .group) (t .books)) (numbered-free s c (t .books .pids) (rw e (record { low = w .low; high = w .high; once = w .once; top = w .top })))
-view-numbered {t} w (resizes _ _ _ _ _) = w
+view-numbered {t} w (resizes _ _ _ _ _ _) = w

@@ -8,12 +8,12 @@ use mathlib.Core.List.{List, _∷_}
 use lib.ListN.{length, getD, set, length-set}
 use lib.Dec.{eqb}
 use Rattle.promises.specs.Types.{UNUSED, RUNNABLE, RUNNING, ZOMBIE, Parent, Nobody, Of, Process}
-use Rattle.rules.specs.Sizes.{slotCount, ownChannel}
+use Rattle.rules.specs.Sizes.{slotCount}
 use Rattle.rules.specs.Model.{Core, Table, at, hartAt, free, taken, is, isSlot, slot, onMeta, asRunnable, asRunning, asSleeping, asZombie, asKilled, withParent}
 use Rattle.rules.specs.Moves.{handOver, change, publish, hand, idle, yieldOn, sleepOn, zombieOn, publishIf, sleepsOn, wakeOne, wake, wakeOf, toFree, reap}
 use Rattle.rules.specs.Calls.{fill, spent}
 use Rattle.promises.specs.Laws.Lists.{and-left, ind, tally, tally-append, tally-set, delta, all-set, rel-set}
-use Rattle.promises.specs.Laws.Scans.{sweep-keeps}
+use Rattle.promises.specs.Laws.Scans.{wakeOf-any, sweep-keeps}
 use Rattle.promises.specs.Order.Sound.{Queued}
 use Rattle.promises.specs.Order.States.{other, used-range, Quiet, quiet, hart-range, runs-running, runs-range, head-ready}
 use Rattle.promises.specs.Order.Chains.{onCore, Move, publishing, yielding, sleeping, dying, marking, adopting, spending, filling, freeing, returning, resizing}
@@ -77,9 +77,7 @@ unfolding wake
 wake-queued ch c v = sweep-keeps Queued (wakeOne ch) (wakeOne-queued ch) slotCount c v
 
 pub wakeOf-queued : (p : Parent) (c : Core) → Queued c → Queued (wakeOf p c)
-unfolding wakeOf
-wakeOf-queued Nobody c v = v
-wakeOf-queued (Of s) c v = wake-queued (ownChannel (s .0)) c v
+wakeOf-queued p c v = wakeOf-any Queued c v (λ ch. wake-queued ch c v) p
 
 -- a slot gets another parent
 pub parent-queued : (q : Parent) (i : ℕ) (c : Core) → Queued c → Queued (change (withParent q) i c)
@@ -181,4 +179,4 @@ move-queued v (filling {t} s k b d w _ _) = change-queued (λ _. taken (t .books
 move-queued v (freeing {t} s z) = change-queued toFree s (t .core) v
     (quieter (at (t .core) s) _ (other ZOMBIE RUNNABLE (at (t .core) s) z) (other ZOMBIE RUNNING (at (t .core) s) z) refl refl refl)
 move-queued v (returning {t} h s e _) = leave-queued h s (t .core) v e toFree refl refl refl
-move-queued v (resizing _ _ _ _ _) = v
+move-queued v (resizing _ _ _ _ _ _) = v

@@ -6,7 +6,7 @@ use mathlib.Core.Bool.{Bool, true, false}
 use lib.ListN.{length}
 use lib.Dec.{eqb}
 use Rattle.promises.specs.Types.{UNUSED, RUNNABLE, RUNNING, ZOMBIE, Parent, Nobody, Member, Alone, In, Process}
-use Rattle.rules.specs.Sizes.{slotCount, groupCount, hartCount, pidTop, nameSize, ownChannel}
+use Rattle.rules.specs.Sizes.{slotCount, groupCount, hartCount, pidTop, nameSize, sizeTop, ownChannel}
 use Rattle.rules.specs.Model.{Core, Books, Table, at, groupAt, free, is, isSlot, known, sameGroup}
 use Rattle.rules.specs.Moves.{sleepsOn}
 use Rattle.rules.specs.Calls.{zombieChildOf, threadOf}
@@ -42,9 +42,9 @@ pub record First (p : Process) : Type 0 where
 -- what holds of slot s by itself, given where init is
 pub record Tidy (init : Parent) (s : ℕ) (p : Process) : Type 0 where
   pub unused : is UNUSED p ≡ true → p ≡ free
-  pub name : length (p .start .name) ≤ nameSize
-  -- a system thread stands alone
-  pub lone : p .kin .system ≡ true → (p .kin .group ≡ Alone) × (p .kin .parent ≡ Nobody) × (p .kin .thread ≡ false)
+  pub name : length (p .start .name) ≡ nameSize
+  -- a system thread stands alone, and is never ZOMBIE
+  pub lone : p .kin .system ≡ true → (p .kin .group ≡ Alone) × (p .kin .parent ≡ Nobody) × (p .kin .thread ≡ false) × (is ZOMBIE p ≡ false)
   -- a user slot has a group, came after init, and has a parent unless it is init
   pub group : is UNUSED p ≡ false → p .kin .system ≡ false → isIn (p .kin .group) ≡ true
   pub after : is UNUSED p ≡ false → p .kin .system ≡ false → known init ≡ true
@@ -54,11 +54,12 @@ pub record Tidy (init : Parent) (s : ℕ) (p : Process) : Type 0 where
 abbrev pub names : ℕ → Process → Bool
 names g p = sameGroup (In g) (p .kin .group)
 
--- a group's count is the number of slots that name it, ZOMBIE ones included; at count 0 its size is 0
+-- a group's count is the number of slots that name it, ZOMBIE ones included; at count 0 its size is 0, and it is never past the top
 pub record Counted (c : Core) (b : Books) : Type 0 where
   pub tall : length (b .groups) ≡ groupCount
   pub count : (g : ℕ) → groupAt b g .count ≡ tally (names g) (c .slots)
   pub empty : (g : ℕ) → groupAt b g .count ≡ 0 → groupAt b g .size ≡ 0
+  pub top : (g : ℕ) → groupAt b g .size ≤ sizeTop
 
 -- slot q is a live thread of the process of p
 pub record Lives (p q : Process) : Type 0 where
@@ -71,7 +72,7 @@ pub record Asleep (c : Core) : Type 0 where
   pub waits : (s j : ℕ) → sleepsOn (ownChannel s) (at c s) ≡ true → zombieChildOf s (at c j) ≡ false
   pub joins : (s i : ℕ) → i < slotCount → s ≢ i → sleepsOn (ownChannel i) (at c s) ≡ true → Lives (at c s) (at c i)
 
--- document 01: "its table came from a fresh one by calls"
+-- what stands for document 01's "its table came from a fresh one by calls", and follows from it (Reached.antt)
 pub record Sound (t : Table) : Type 0 where
   pub queued : Queued (t .core)
   pub numbered : Numbered (t .core) (t .books .pids)

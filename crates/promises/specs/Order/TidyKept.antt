@@ -1,6 +1,5 @@
 -- Each move keeps what holds of every slot by itself.
-use Prim.Native.Nat.{ℕ, _≤_}
-use native.Mathlib.Omega.{arith}
+use Prim.Native.Nat.{ℕ}
 use mathlib.Core.Path.{_≡_, refl, ap}
 use mathlib.Core.Bool.{Bool, true, false}
 use mathlib.Core.List.{List}
@@ -9,13 +8,13 @@ use lib.Dec.{eqb}
 use lib.Seq.{getD-set-same, getD-set-other}
 use borrow.Author.Tests.{eq-eqb, eqb-true, eqb-false}
 use Rattle.promises.specs.Types.{UNUSED, RUNNABLE, SLEEPING, ZOMBIE, Parent, Nobody, Of, Alone, ProcMeta, Process, Kin, Start}
-use Rattle.rules.specs.Sizes.{slotCount, nameSize, ownChannel}
+use Rattle.rules.specs.Sizes.{slotCount, nameSize}
 use Rattle.rules.specs.Model.{Core, Books, Table, at, free, taken, is, isSlot, known, slot, onMeta, asRunnable, asRunning, asSleeping, asZombie, asKilled, withParent}
 use Rattle.rules.specs.Moves.{change, publish, hand, idle, yieldOn, sleepOn, zombieOn, publishIf, sleepsOn, wakeOne, wake, wakeOf, openGroup, joinGroup, resize, setInit, spend, toFree, reap}
 use Rattle.rules.specs.Calls.{fill, spent}
 use Rattle.promises.specs.Laws.Lists.{and-left, clash, all-set}
 use Rattle.promises.specs.Order.Books.{leave-init}
-use Rattle.promises.specs.Laws.Scans.{sweep-keeps}
+use Rattle.promises.specs.Laws.Scans.{wakeOf-any, sweep-keeps}
 use Rattle.promises.specs.Order.Sound.{isIn, Queued, First, Tidy}
 use Rattle.promises.specs.Order.States.{other, quiet, runs-used}
 use Rattle.promises.specs.Order.Chains.{onCore, Vacant, Birth, ofInit, ofSystem, ofChild, ofThread, Move, publishing, yielding, sleeping, dying, marking, adopting, spending, filling, freeing, returning, resizing}
@@ -25,11 +24,11 @@ AllTidy init c = (s : ℕ) → Tidy init s (at c s)
 
 -- ---- a used slot's meta changes, and it stays used; init must not become ZOMBIE
 tidy-meta : (init : Parent) (s : ℕ) (p : Process) (f : ProcMeta → ProcMeta) → is UNUSED p ≡ false → is UNUSED (onMeta f p) ≡ false
-    → (isSlot s init ≡ true → is ZOMBIE (onMeta f p) ≡ false) → Tidy init s p → Tidy init s (onMeta f p)
-tidy-meta init s p f u v z w = record {
+    → (isSlot s init ≡ true → is ZOMBIE (onMeta f p) ≡ false) → (p .kin .system ≡ true → is ZOMBIE (onMeta f p) ≡ false) → Tidy init s p → Tidy init s (onMeta f p)
+tidy-meta init s p f u v z y w = record {
   unused = λ e. absurd (clash e v);
   name = w .name;
-  lone = w .lone;
+  lone = λ e. let o = w .lone e in (o .0, o .1, o .2, y e);
   group = λ _. w .group u;
   after = λ _. w .after u;
   child = λ _. w .child u;
@@ -43,7 +42,7 @@ module _ (init : Parent) (c : Core) (w : AllTidy init c) where
 
   publish-tidy : (s : ℕ) → is UNUSED (at c s) ≡ false → AllTidy init (publish s c)
   unfolding publish change
-  publish-tidy s u = all-set (Tidy init) (c .slots) s (onMeta asRunnable (at c s)) free w (tidy-meta init s (at c s) asRunnable u refl (λ _. refl) (w s))
+  publish-tidy s u = all-set (Tidy init) (c .slots) s (onMeta asRunnable (at c s)) free w (tidy-meta init s (at c s) asRunnable u refl (λ _. refl) (λ _. refl) (w s))
 
 wake-tidy : (init : Parent) (ch : ℕ) (c : Core) → AllTidy init c → AllTidy init (wake ch c)
 unfolding wake wakeOne publishIf
@@ -54,9 +53,7 @@ wake-tidy init ch c w = sweep-keeps (AllTidy init) (wakeOne ch) (λ s d v. go s 
     go s d v false e = v
 
 wakeOf-tidy : (init p : Parent) (c : Core) → AllTidy init c → AllTidy init (wakeOf p c)
-unfolding wakeOf
-wakeOf-tidy init Nobody c w = w
-wakeOf-tidy init (Of s) c w = wake-tidy init (ownChannel (s .0)) c w
+wakeOf-tidy init p c w = wakeOf-any (AllTidy init) c w (λ ch. wake-tidy init ch c w) p
 
 -- ---- a slot that has a parent gets init
 tidy-adopted : (init : Parent) (i : ℕ) (p : Process) → known (p .kin .parent) ≡ true → Tidy init i p → Tidy init i (withParent init p)
@@ -76,7 +73,7 @@ pub tidy-free : (init : Parent) (s : ℕ) → isSlot s init ≡ false → Tidy i
 unfolding free
 tidy-free init s e = record {
   unused = λ _. refl;
-  name = omega (arith, length-replicate {A = ℕ} nameSize 0);
+  name = length-replicate {A = ℕ} nameSize 0;
   lone = λ f. absurd (clash f refl);
   group = λ u. absurd (clash {b = true} refl u);
   after = λ u. absurd (clash {b = true} refl u);
@@ -94,7 +91,7 @@ not-first init s p w f = go (isSlot s init) refl
 
 -- ---- births
 -- a user slot just taken, whose parent is known unless it is init
-tidy-user : (init : Parent) (s n : ℕ) (k : Kin) (b : Start) → length (b .name) ≤ nameSize → known init ≡ true → k .system ≡ false → isIn (k .group) ≡ true
+tidy-user : (init : Parent) (s n : ℕ) (k : Kin) (b : Start) → length (b .name) ≡ nameSize → known init ≡ true → k .system ≡ false → isIn (k .group) ≡ true
     → (isSlot s init ≡ false → known (k .parent) ≡ true) → (isSlot s init ≡ true → (k .thread ≡ false) × (k .parent ≡ Nobody)) → Tidy init s (taken n k b)
 unfolding taken
 tidy-user init s n k b l a y g q f = record {
@@ -107,13 +104,13 @@ tidy-user init s n k b l a y g q f = record {
   first = λ e. record { used = refl; live = refl; user = y; leads = f e .0; orphan = f e .1 };
 }
 
-tidy-system : (init : Parent) (s n : ℕ) (b : Start) → length (b .name) ≤ nameSize → isSlot s init ≡ false
+tidy-system : (init : Parent) (s n : ℕ) (b : Start) → length (b .name) ≡ nameSize → isSlot s init ≡ false
     → Tidy init s (taken n (record { group = Alone; parent = Nobody; thread = false; system = true }) b)
 unfolding taken
 tidy-system init s n b l f = record {
   unused = λ e. absurd (clash e refl);
   name = l;
-  lone = λ _. (refl, refl, refl);
+  lone = λ _. (refl, refl, refl, refl);
   group = λ _ y. absurd (clash {b = true} refl y);
   after = λ _ y. absurd (clash {b = true} refl y);
   child = λ _ y. absurd (clash {b = true} refl y);
@@ -132,7 +129,7 @@ tidy-before init s j p k n w = record {
   first = λ e. absurd (clash e n);
 }
 
-module _ (t : Table) (s n : ℕ) (b : Start) (l : length (b .name) ≤ nameSize) (x : Vacant t s) (w : AllTidy (t .books .init) (t .core)) where
+module _ (t : Table) (s n : ℕ) (b : Start) (l : length (b .name) ≡ nameSize) (x : Vacant t s) (w : AllTidy (t .books .init) (t .core)) where
   unused-not-init : isSlot s (t .books .init) ≡ false
   unused-not-init = not-first (t .books .init) s (at (t .core) s) (w s) (λ o. clash (x .unused) (o .used))
 
@@ -147,27 +144,27 @@ module _ (t : Table) (s n : ℕ) (b : Start) (l : length (b .name) ≤ nameSize)
 
   birth-tidy : {k : Kin} {d : Books} → Birth t s k d → AllTidy (d .init) (fill s (taken n k b) (t .core))
   unfolding setInit openGroup joinGroup fill
-  birth-tidy (ofInit e _) = init-tidy (taken n _ b) e (tidy-user (Of (slot s)) s n _ b l refl refl refl (λ f. absurd (clash (eq-eqb s s refl) f)) (λ _. (refl, refl)))
+  birth-tidy (ofInit e _ _) = init-tidy (taken n _ b) e (tidy-user (Of (slot s)) s n _ b l refl refl refl (λ f. absurd (clash (eq-eqb s s refl) f)) (λ _. (refl, refl)))
   birth-tidy ofSystem = change-tidy (t .books .init) (t .core) w (λ _. taken n _ b) s (tidy-system (t .books .init) s n b l unused-not-init)
-  birth-tidy (ofChild a q _) = change-tidy (t .books .init) (t .core) w (λ _. taken n _ b) s
+  birth-tidy (ofChild a q _ _) = change-tidy (t .books .init) (t .core) w (λ _. taken n _ b) s
       (tidy-user (t .books .init) s n _ b l a refl refl (λ _. refl) (λ f. absurd (clash f unused-not-init)))
   birth-tidy (ofThread a g q h _ _ _) = change-tidy (t .books .init) (t .core) w (λ _. taken n _ b) s
       (tidy-user (t .books .init) s n _ b l a refl refl (λ _. h) (λ f. absurd (clash f unused-not-init)))
 
 pub hand-tidy : (init : Parent) (h s : ℕ) (rest : List ℕ) (c : Core) → is RUNNABLE (at c s) ≡ true → AllTidy init c → AllTidy init (hand h s rest c)
 unfolding hand change
-hand-tidy init h s rest c e w = change-tidy init c w (onMeta asRunning) s (tidy-meta init s (at c s) asRunning (other RUNNABLE UNUSED (at c s) e) refl (λ _. refl) (w s))
+hand-tidy init h s rest c e w = change-tidy init c w (onMeta asRunning) s (tidy-meta init s (at c s) asRunning (other RUNNABLE UNUSED (at c s) e) refl (λ _. refl) (λ _. refl) (w s))
 
 pub move-tidy : {t u : Table} → Queued (t .core) → AllTidy (t .books .init) (t .core) → Move t u → AllTidy (u .books .init) (u .core)
 unfolding onCore sleepOn zombieOn yieldOn idle spent spend reap resize
 move-tidy v w (publishing {t} s r) = publish-tidy (t .books .init) (t .core) w s (quiet (at (t .core) s) r .used)
 move-tidy v w (yielding {t} h s e) = publish-tidy (t .books .init) (idle h (t .core)) w s (runs-used h s (t .core) v e)
 move-tidy v w (sleeping {t} h s ch e _) = change-tidy (t .books .init) (idle h (t .core)) w (onMeta (asSleeping ch)) s
-    (tidy-meta (t .books .init) s (at (t .core) s) (asSleeping ch) (runs-used h s (t .core) v e) refl (λ _. refl) (w s))
+    (tidy-meta (t .books .init) s (at (t .core) s) (asSleeping ch) (runs-used h s (t .core) v e) refl (λ _. refl) (λ _. refl) (w s))
 move-tidy v w (dying {t} h s x e f) = change-tidy (t .books .init) (idle h (t .core)) w (onMeta (asZombie x)) s
-    (tidy-meta (t .books .init) s (at (t .core) s) (asZombie x) (runs-used h s (t .core) v e) refl (λ i. absurd (clash i (f .mortal))) (w s))
+    (tidy-meta (t .books .init) s (at (t .core) s) (asZombie x) (runs-used h s (t .core) v e) refl (λ i. absurd (clash i (f .mortal))) (λ y. absurd (clash y (f .user))) (w s))
 move-tidy v w (marking {t} s u) = change-tidy (t .books .init) (t .core) w (onMeta asKilled) s
-    (tidy-meta (t .books .init) s (at (t .core) s) asKilled u u (λ i. w s .first i .live) (w s))
+    (tidy-meta (t .books .init) s (at (t .core) s) asKilled u u (λ i. w s .first i .live) (λ y. w s .lone y .3) (w s))
 move-tidy v w (adopting {t} i k) = wakeOf-tidy (t .books .init) (t .books .init) _
     (change-tidy (t .books .init) (t .core) w (withParent (t .books .init)) i (tidy-adopted (t .books .init) i (at (t .core) i) k (w i)))
 move-tidy v w (spending _) = w
@@ -176,4 +173,4 @@ move-tidy v w (freeing {t} s z) = rw (leave-init (at (t .core) s .kin .group) (t
     (tidy-free (t .books .init) s (not-first (t .books .init) s (at (t .core) s) (w s) (λ o. clash z (o .live)))))
 move-tidy v w (returning {t} h s e y) = rw (leave-init (at (t .core) s .kin .group) (t .books)) (change-tidy (t .books .init) (idle h (t .core)) w toFree s
     (tidy-free (t .books .init) s (not-first (t .books .init) s (at (t .core) s) (w s) (λ o. clash y (o .user)))))
-move-tidy v w (resizing _ _ _ _ _) = w
+move-tidy v w (resizing _ _ _ _ _ _) = w

@@ -13,8 +13,11 @@ set-kin-requires : tie.Need-set-kin-requires
 set-kin-requires c κs = search needs
 
 wake-of-requires : tie.Need-wake-of-requires
-wake-of-requires c κs = (c .before .before .before .before .before .pre .1, adopt-queued (tableOf (c .before .before .before .before .before .args .t .now)) (c .before .before .before .before .before .args .i) (c .before .before .before .before .before .args .init) (c .before .set-kin .ensures ∙ kin-change (tableOf (c .before .before .before .before .before .args .t .now)) (c .before .before .before .before .before .args .i) _ (c .before .before .before .before .before .args .init)
-    (ap (λ (k : Kin). record { group = k .group; parent = c .before .before .before .before .before .args .init; thread = k .thread; system = k .system }) (c .before .before .before .kin-at .ensures .0))) (c .before .before .before .before .before .pre .2))
+wake-of-requires c κs = (
+  c .before .before .before .before .before .pre .1,
+  adopt-queued (tableOf (c .before .before .before .before .before .args .t .now)) (c .before .before .before .before .before .args .i) (c .before .before .before .before .before .args .init) (c .before .set-kin .ensures ∙ kin-change (tableOf (c .before .before .before .before .before .args .t .now)) (c .before .before .before .before .before .args .i) _ (c .before .before .before .before .before .args .init)
+      (ap (λ (k : Kin). record { group = k .group; parent = c .before .before .before .before .before .args .init; thread = k .thread; system = k .system }) (c .before .before .before .kin-at .ensures .0))) (c .before .before .before .before .before .pre .2),
+)
 
 returns : tie.Need-returns
 returns c = c .wake-of .ensures ∙ adopt-law (tableOf (c .before .before .before .before .before .before .args .t .now)) (c .before .before .before .before .before .before .args .i) (c .before .before .before .before .before .before .args .init) (c .before .before .set-kin .ensures ∙ kin-change (tableOf (c .before .before .before .before .before .before .args .t .now)) (c .before .before .before .before .before .before .args .i) _ (c .before .before .before .before .before .before .args .init)
