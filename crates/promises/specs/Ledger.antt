@@ -9,7 +9,7 @@ use mathlib.Core.Option.{Option, none, some}
 use lib.ListN.{length, getD}
 use borrow.Author.Tests.{eqb-true, not-true}
 use Rattle.promises.specs.Types.{UNUSED, NoneSuch, Answer, Done, Made, Handed, Reaped, Joined, Blocked, Refused}
-use Rattle.rules.specs.Sizes.{pidTop}
+use Rattle.rules.specs.Sizes.{pidTop, sizeTop}
 use Rattle.rules.specs.Model.{Table, at, groupAt, free, is, fresh, pid}
 use Rattle.rules.specs.Moves.{lowest, slay, spend}
 use Rattle.rules.specs.Calls.{Outcome, gives, moves, refuse, spent, found, hasPid, killed}
@@ -29,6 +29,7 @@ pub record Ledger (t : Table) : Type 0 where
   -- a group's count is the number of slots that name it, whatever their state; at count 0 its size is 0
   pub group-count : (g : ℕ) → groupAt (t .books) g .count ≡ tally (names g) (t .core .slots)
   pub group-empty : (g : ℕ) → groupAt (t .books) g .count ≡ 0 → groupAt (t .books) g .size ≡ 0
+  pub group-top : (g : ℕ) → groupAt (t .books) g .size ≤ sizeTop
   -- an UNUSED slot is exactly as a freed one
   pub unused-free : (s : ℕ) → is UNUSED (at (t .core) s) ≡ true → at (t .core) s ≡ free
 
@@ -40,6 +41,7 @@ ledger cs = let w = reached-sound cs in record {
   counter-top = w .numbered .top;
   group-count = w .counted .count;
   group-empty = w .counted .empty;
+  group-top = w .counted .top;
   unused-free = λ s. w .tidy s .unused;
 }
 
