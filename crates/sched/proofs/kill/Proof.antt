@@ -1,7 +1,7 @@
 use Rattle.sched.proofs.SchedLaws.{kill-no, kill-is}
 use Rattle.promises.specs.Did.{did}
 use Rattle.words.specs.Reading.{tableOf}
-use mathlib.Core.Path.{subst}
+use mathlib.Core.Path.{sym, subst}
 use Rattle.scans.specs.Tests.{InRange}
 use borrow.Author.Needs.{needs}
 use Rattle.sched.proofs.kill.Statement.{statement}
@@ -33,7 +33,7 @@ returns c = did (c .before .before .before .before .pre) (kill-no (tableOf (c .b
 
 -- src/lib.rt:83:1
 returns-2 : tie.Need-returns-2
-returns-2 c = did (c .before .before .before .before .before .before .before .pre) (kill-is (tableOf (c .before .before .before .before .before .before .before .args .t .now)) (c .before .before .before .before .before .before .before .args .p) (c .before .before .before .before .before .find .result) (c .before .before .before .before .before .find .ensures .0) (c .before .before .before .f .given .1) (c .slay .ensures))
+returns-2 c = did (c .before .before .before .before .before .before .before .pre) (kill-is (tableOf (c .before .before .before .before .before .before .before .args .t .now)) (c .before .before .before .before .before .before .before .args .p) (c .before .before .before .before .before .find .result) (c .before .before .before .before .before .find .ensures .0) (sym (c .before .before .before .f .given .1)) (c .slay .ensures))
 
 pub kill-spec : {M : Type 1} → statement M
 kill-spec =
