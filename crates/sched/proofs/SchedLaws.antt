@@ -8,7 +8,6 @@ use borrow.Author.Tests.{le-leb, lt-leb, lt-ltb, le-ltb}
 use Rattle.rules.specs.declared.ProcState.the-variants.{UNUSED, RUNNABLE, RUNNING}
 use Rattle.rules.specs.declared.Slot.{Slot}
 use Rattle.rules.specs.declared.Pid.{Pid}
-use Rattle.rules.specs.declared.Parent.{Parent}
 use Rattle.rules.specs.declared.Parent.the-variants.{Nobody, Of}
 use Rattle.rules.specs.declared.Refusal.{Refusal}
 use Rattle.rules.specs.declared.Refusal.the-variants.{NoSuchHart, HartBusy, QueueEmpty, NotADevice, NoneSuch}

@@ -6,32 +6,22 @@ use Rattle.scans.specs.Tests.{InRange}
 use borrow.Author.Needs.{needs}
 use Rattle.sched.proofs.kill.Statement.{statement}
 use Rattle.sched.proofs.kill.Tie as tie
-use Rattle.sched.proofs.kill.Reads as reads
-use Rattle.sched.proofs.kill.Lts as lts
-use Rattle.scans.proofs.find.Reads as find-reads
-use Rattle.wakes.proofs.slay.Reads as slay-reads
 
--- src/lib.rt:87:9
 find-requires : tie.Need-find-requires
 find-requires c κs = search needs
 
--- src/lib.rt:89:43
 enum-told : tie.Need-enum-told
 enum-told c = search needs
 
--- src/lib.rt:90:19
 enum-known-f : tie.Need-enum-known-f
 enum-known-f c = search needs
 
--- src/lib.rt:91:13
 slay-requires : tie.Need-slay-requires
 slay-requires c κs = (subst InRange (c .before .before .f .given .1) (c .before .before .before .before .find .ensures .1), c .before .before .before .before .before .before .pre .queued)
 
--- src/lib.rt:83:1
 returns : tie.Need-returns
 returns c = did (c .before .before .before .before .pre) (kill-no (tableOf (c .before .before .before .before .args .t .now)) (c .before .before .before .before .args .p) (c .before .before .find .result) (c .before .before .find .ensures .0) (cc))
 
--- src/lib.rt:83:1
 returns-2 : tie.Need-returns-2
 returns-2 c = did (c .before .before .before .before .before .before .before .pre) (kill-is (tableOf (c .before .before .before .before .before .before .before .args .t .now)) (c .before .before .before .before .before .before .before .args .p) (c .before .before .before .before .before .find .result) (c .before .before .before .before .before .find .ensures .0) (sym (c .before .before .before .f .given .1)) (c .slay .ensures))
 

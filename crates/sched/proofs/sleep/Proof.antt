@@ -7,37 +7,26 @@ use Rattle.rules.specs.Sizes.{slotCount, firstDevice}
 use borrow.Author.Needs.{needs}
 use Rattle.sched.proofs.sleep.Statement.{statement}
 use Rattle.sched.proofs.sleep.Tie as tie
-use Rattle.sched.proofs.sleep.Reads as reads
-use Rattle.sched.proofs.sleep.Lts as lts
-use Rattle.moves.proofs.sleep_on.Reads as sleep-on-reads
-use Rattle.taking.proofs.caller_on.Reads as caller-on-reads
 
--- src/lib.rt:59:9
 caller-on-requires : tie.Need-caller-on-requires
 caller-on-requires c κs = search needs
 
--- src/lib.rt:61:17
 enum-known-c : tie.Need-enum-known-c
 enum-known-c c = search needs
 
--- src/lib.rt:62:17
 enum-known-c-2 : tie.Need-enum-known-c-2
 enum-known-c-2 c = search needs
 
--- src/lib.rt:64:17
 returns : tie.Need-returns
 unfolding firstDevice slotCount
 returns c = did (c .before .before .before .before .before .before .pre) (sleep-low (tableOf (c .before .before .before .before .before .before .args .t .now)) _ _ (sym (c .before .before .c2 .given .1) ∙ c .before .before .before .before .caller-on .ensures .0) (c .if1 .taken))
 
--- src/lib.rt:66:13
 sleep-on-requires : tie.Need-sleep-on-requires
 sleep-on-requires c κs = let k = subst (InHart _) (c .before .before .before .c2 .given .1) (c .before .before .before .before .before .caller-on .ensures .1) in (k .1, k .0)
 
--- src/lib.rt:55:1
 returns-2 : tie.Need-returns-2
 returns-2 c = did (c .before .before .before .before .before .pre) (sleep-no (tableOf (c .before .before .before .before .before .args .t .now)) _ _ _ (sym (c .before .c .given .1) ∙ c .before .before .before .caller-on .ensures .0))
 
--- src/lib.rt:55:1
 returns-3 : tie.Need-returns-3
 unfolding firstDevice slotCount
 returns-3 c = did (c .before .before .before .before .before .before .before .before .pre) (sleep-is (tableOf (c .before .before .before .before .before .before .before .before .args .t .now)) _ _ (sym (c .before .before .before .before .c2 .given .1) ∙ c .before .before .before .before .before .before .caller-on .ensures .0) (c .before .before .if1 .left) (c .sleep-on .ensures))

@@ -4,20 +4,14 @@ use Rattle.words.specs.Reading.{tableOf}
 use Rattle.rules.specs.Sizes.{slotCount, firstDevice}
 use Rattle.sched.proofs.wake_up.Statement.{statement}
 use Rattle.sched.proofs.wake_up.Tie as tie
-use Rattle.sched.proofs.wake_up.Reads as reads
-use Rattle.sched.proofs.wake_up.Lts as lts
-use Rattle.wakes.proofs.wake_up.Reads as wake-up-reads
 
--- src/lib.rt:77:9
 returns : tie.Need-returns
 unfolding firstDevice slotCount
 returns c = did (c .before .pre) (wake-low (tableOf (c .before .args .t .now)) _ (c .if1 .taken))
 
--- src/lib.rt:79:5
 wake-up-requires : tie.Need-wake-up-requires
 wake-up-requires c κs = c .before .before .pre .queued
 
--- src/lib.rt:72:1
 returns-2 : tie.Need-returns-2
 unfolding firstDevice slotCount
 returns-2 c = did (c .before .before .before .pre) (wake-is (tableOf (c .before .before .before .args .t .now)) _ (c .before .before .if1 .left) (c .wake-up .ensures))

@@ -6,33 +6,23 @@ use Rattle.taking.specs.Parts.{InHart}
 use borrow.Author.Needs.{needs}
 use Rattle.sched.proofs.yielding.Statement.{statement}
 use Rattle.sched.proofs.yielding.Tie as tie
-use Rattle.sched.proofs.yielding.Reads as reads
-use Rattle.sched.proofs.yielding.Lts as lts
-use Rattle.moves.proofs.yield_on.Reads as yield-on-reads
-use Rattle.taking.proofs.caller_on.Reads as caller-on-reads
 
--- src/lib.rt:45:9
 caller-on-requires : tie.Need-caller-on-requires
 caller-on-requires c κs = search needs
 
--- src/lib.rt:47:17
 enum-known-c : tie.Need-enum-known-c
 enum-known-c c = search needs
 
--- src/lib.rt:48:17
 enum-known-c-2 : tie.Need-enum-known-c-2
 enum-known-c-2 c = search needs
 
--- src/lib.rt:49:13
 yield-on-requires : tie.Need-yield-on-requires
 yield-on-requires c κs = let k = subst (InHart _) (c .before .before .c2 .given .1) (c .before .before .before .before .caller-on .ensures .1) in
     (k .1, k .0, caller-room _ (c .before .before .before .before .before .before .args .h) _ (c .before .before .before .before .before .before .pre .queued) (sym (c .before .before .c2 .given .1) ∙ c .before .before .before .before .caller-on .ensures .0))
 
--- src/lib.rt:41:1
 returns : tie.Need-returns
 returns c = did (c .before .before .before .before .before .pre) (yield-no (tableOf (c .before .before .before .before .before .args .t .now)) _ _ (sym (c .before .c .given .1) ∙ c .before .before .before .caller-on .ensures .0))
 
--- src/lib.rt:41:1
 returns-2 : tie.Need-returns-2
 returns-2 c = did (c .before .before .before .before .before .before .before .pre) (yield-is (tableOf (c .before .before .before .before .before .before .before .args .t .now)) _ (sym (c .before .before .before .c2 .given .1) ∙ c .before .before .before .before .before .caller-on .ensures .0) (c .yield-on .ensures))
 

@@ -1,0 +1,5 @@
+mod TextLaws
+mod DigitLaws
+mod NameLaws
+mod LineLaws
+mod RoomLaws

@@ -1,0 +1,81 @@
+use Prim.Native.Nat.{ℕ, _+_, _≤_}
+use mathlib.Core.Path.{_≡_}
+use mathlib.Core.List.{List, _++_}
+use lib.ListN.{length}
+use borrow.Author.Needs.{needs}
+use Rattle.words.specs.Reading.{tableOf, bytesOf}
+use Rattle.listing.specs.Lines.{pidText, stateLabelled, nameText, lineAt}
+use Rattle.listing.proofs.TextLaws.{wrote-none, three-first, three-next, three-last, three-wrote}
+use Rattle.listing.proofs.LineLaws.{used, line-none, line-here}
+use Rattle.listing.proofs.line.write_line.Statement.{statement}
+use Rattle.listing.proofs.line.write_line.Tie as tie
+
+abbrev pidOf : tie.After-start-at → List ℕ
+pidOf c = pidText (c .before .before .before .meta-at .result .pid .0)
+
+abbrev stateOf : tie.After-start-at → List ℕ
+stateOf c = stateLabelled (c .before .before .before .meta-at .result .state)
+
+abbrev nameOf : tie.After-start-at → List ℕ
+nameOf c = nameText (bytesOf (c .start-at .result .name0) ++ bytesOf (c .start-at .result .name1))
+
+pieces : (c : tie.After-start-at) → lineAt (tableOf (c .before .before .before .before .before .args .t .now)) (c .before .before .before .before .before .args .s) ≡ pidOf c ++ stateOf c ++ nameOf c
+pieces c =
+    let m = c .before .before .before .meta-at in
+    line-here _ _ (m .result) (m .ensures) (c .start-at .result) (c .start-at .ensures) (used (m .result .state) (c .before .before .match .keys2))
+
+room : (c : tie.After-start-at) → c .before .before .before .before .before .args .at + length (pidOf c ++ stateOf c ++ nameOf c) ≤ length (c .before .before .before .before .before .args .buffer .now)
+room c = rw (pieces c) at (c .before .before .before .before .before .pre .1)
+
+meta-at-requires : tie.Need-meta-at-requires
+meta-at-requires c κs = search needs
+
+enum-told : tie.Need-enum-told
+enum-told c = search needs
+
+returns : tie.Need-returns
+returns c =
+    let a = c .before .before .before .before .args in
+    let m = c .before .before .meta-at in
+    rw (line-none (tableOf (a .t .now)) (a .s) (m .result) (m .ensures) (c .enum-told .given .1)) (wrote-none (a .buffer .now) (a .at))
+
+start-at-requires : tie.Need-start-at-requires
+start-at-requires c κs = search needs
+
+write-pid-requires : tie.Need-write-pid-requires
+write-pid-requires c κs = three-first _ (pidOf (c .before)) (stateOf (c .before)) (nameOf (c .before)) (room (c .before))
+
+write-state-requires : tie.Need-write-state-requires
+write-state-requires c κs =
+    let d = c .before .before .before .before .before in
+    let u = c .before .before .before .write-pid in
+    three-next (pidOf d) (stateOf d) (nameOf d) (room d) (u .ensures) (u .kept .0)
+
+write-name-requires : tie.Need-write-name-requires
+write-name-requires c κs =
+    let d = c .before .before .before .before .before .before .before .before .before in
+    let u = c .before .before .before .before .before .before .before .write-pid in
+    let v = c .before .before .before .write-state in
+    three-last (pidOf d) (stateOf d) (nameOf d) (room d) (u .ensures) (v .ensures) (u .kept .0) (v .kept .0)
+
+same-length : tie.Need-same-length
+same-length c = search needs
+
+returns-2 : tie.Need-returns-2
+returns-2 c =
+    let d = c .before .before .before .before .before .before .before .before .before .before .before .before in
+    rw (pieces d) (three-wrote (pidOf d) (stateOf d) (nameOf d) (room d) (c .before .before .before .before .before .before .before .before .before .before .write-pid .ensures) (c .before .before .before .before .before .before .write-state .ensures) (c .before .before .write-name .ensures))
+
+pub write-line-spec : {M : Type 1} → statement M
+write-line-spec =
+    tie.close
+    (tie.spec
+    meta-at-requires
+    enum-told
+    returns
+    start-at-requires
+    write-pid-requires
+    write-state-requires
+    write-name-requires
+    same-length
+    returns-2)

@@ -1,0 +1,82 @@
+use Prim.Native.Nat.{ℕ}
+use native.Mathlib.Omega.{arith}
+use mathlib.Core.Path.{_≡_, sym}
+use mathlib.Core.List.{List, _++_}
+use lib.ListN.{length}
+use lib.Seq.{length-take-le}
+use borrow.Author.Needs.{needs}
+use Rattle.rules.specs.Listing.{bytes}
+use Rattle.words.specs.Reading.{bytesOf}
+use Rattle.listing.specs.Lines.{nameShown, nameText}
+use Rattle.listing.proofs.TextLaws.{three-next, three-last, three-wrote}
+use Rattle.listing.proofs.line.write_name.Statement.{statement}
+use Rattle.listing.proofs.line.write_name.Tie as tie
+
+abbrev textOf : tie.After-shown-name → List ℕ
+textOf c = nameShown (bytesOf (c .before .before .args .a) ++ bytesOf (c .before .before .args .b))
+
+shown-name-requires : tie.Need-shown-name-requires
+shown-name-requires c κs = search needs
+
+slice-aggregate-write : tie.Need-slice-aggregate-write
+slice-aggregate-write c = search needs
+
+write-requires : tie.Need-write-requires
+unfolding nameText bytes
+write-requires c κs = omega (arith, c .before .before .before .before .before .pre)
+
+array-share-prefix-bytes : tie.Need-array-share-prefix-bytes
+array-share-prefix-bytes c =
+    let n = c .before .before .before .before .before .before .before .shown-name in
+    let l : length (n .result .bytes) ≡ 16 = search needs in
+    omega (arith, n .ensures .1)
+
+slice-aggregate-write-2 : tie.Need-slice-aggregate-write-2
+slice-aggregate-write-2 c =
+    let n = c .before .before .before .before .before .before .before .before .shown-name in
+    let l : length (n .result .bytes) ≡ 16 = search needs in
+    sym (length-take-le (n .result .len) (n .result .bytes) (omega (arith, n .ensures .1)))
+
+write-requires-2 : tie.Need-write-requires-2
+unfolding nameText bytes
+write-requires-2 c κs =
+    let d = c .before .before .before .before .before .before .before .before in
+    let w = c .before .before .before .before .write in
+    rw (d .shown-name .ensures .0) (three-next (bytes " name: ") (textOf d) (bytes "\n") (d .before .before .pre) (w .ensures) (w .kept .0))
+
+slice-aggregate-write-3 : tie.Need-slice-aggregate-write-3
+slice-aggregate-write-3 c = search needs
+
+write-requires-3 : tie.Need-write-requires-3
+unfolding nameText bytes
+write-requires-3 c κs =
+    let d = c .before .before .before .before .before .before .before .before .before .before .before .before .before in
+    let w = c .before .before .before .before .before .before .before .before .before .write in
+    let v = c .before .before .before .before .write2 in
+    three-last (bytes " name: ") (textOf d) (bytes "\n") (d .before .before .pre) (w .ensures) (rw (d .shown-name .ensures .0) at (v .ensures)) (w .kept .0) (v .kept .0)
+
+same-length : tie.Need-same-length
+same-length c = search needs
+
+returns : tie.Need-returns
+unfolding nameText bytes
+returns c =
+    let d = c .before .before .before .before .before .before .before .before .before .before .before .before .before .before .before .before in
+    let w = c .before .before .before .before .before .before .before .before .before .before .before .before .write in
+    let v = c .before .before .before .before .before .before .before .write2 in
+    three-wrote (bytes " name: ") (textOf d) (bytes "\n") (d .before .before .pre) (w .ensures) (rw (d .shown-name .ensures .0) at (v .ensures)) (c .before .before .write3 .ensures)
+
+pub write-name-spec : {M : Type 1} → statement M
+write-name-spec =
+    tie.close
+    (tie.spec
+    shown-name-requires
+    slice-aggregate-write
+    write-requires
+    array-share-prefix-bytes
+    slice-aggregate-write-2
+    write-requires-2
+    slice-aggregate-write-3
+    write-requires-3
+    same-length
+    returns)

@@ -1,0 +1,69 @@
+// The listing of the table: its length, and its text in a lent buffer.
+ghost use mathlib.Core.Path.{_≡_};
+ghost use Prim.Native.Nat.{_≤_};
+ghost use lib.ListN.{length};
+ghost use Rattle.rules.specs.Listing.{listing, roomFor, listedPart, listedBuffer};
+ghost use Rattle.words.specs.Reading.{tableOf};
+ghost use Rattle.listing.specs.Text.{put};
+use rules::Refusal;
+use rules::Room;
+use words::Table;
+
+pub mod digits; // a number in decimal
+mod line; // a slot's line
+mod name; // a slot's name
+mod text; // text in a buffer
+
+fn text_len(t: &[u64; Table::WORDS]) -> usize
+    ensures { λ r. ⌜ r ≡ length (listing (tableOf (now (t .entry)))) ⌝ }
+{
+    let mut n = 0;
+    for s in 0..Table::SLOTS {
+        n += line::line_len(t, s);
+    }
+    n
+}
+
+fn write_all(t: &[u64; Table::WORDS], buffer: &mut [u8])
+    requires { ⌜ length (listing (tableOf (now t))) ≤ length (now buffer) ⌝ }
+    ensures { λ _. ⌜ now (buffer .exit) ≡ put (now (buffer .entry)) 0 (listing (tableOf (now (t .entry)))) ⌝ }
+{
+    let mut at = 0;
+    for s in 0..Table::SLOTS {
+        at = line::write_line(t, s, buffer, at);
+    }
+}
+
+pub fn room_for(t: &[u64; Table::WORDS], room: usize) -> Room
+    ensures { λ r. ⌜ r ≡ roomFor (tableOf (now (t .entry))) room ⌝ }
+{
+    let n = text_len(t);
+    if n <= room {
+        Room::Fits(n)
+    } else {
+        Room::Short(Refusal::NoRoom)
+    }
+}
+
+pub fn dump_into(t: &[u64; Table::WORDS], buffer: &mut [u8]) -> Room
+    ensures answer { λ r. ⌜ r ≡ roomFor (tableOf (now (t .entry))) (length (now (buffer .entry))) ⌝ }
+    ensures written { λ _. ⌜ now (buffer .exit) ≡ listedBuffer (tableOf (now (t .entry))) (now (buffer .entry)) ⌝ }
+{
+    match room_for(t, buffer.len()) {
+        Room::Fits(n) => {
+            write_all(t, buffer);
+            Room::Fits(n)
+        }
+        Room::Short(why) => Room::Short(why),
+    }
+}
+
+// What the rest of the buffer holds can't be said of a part handed back; dump_into says it.
+pub fn proc_dump<'a>(t: &[u64; Table::WORDS], buffer: &'a mut [u8]) -> &'a mut [u8]
+    ensures { λ r. ⌜ now r ≡ listedPart (tableOf (now (t .entry))) (now (buffer .entry)) ⌝ }
+{
+    match dump_into(t, buffer) {
+        Room::Fits(n) => &mut buffer[..n],
+        Room::Short(_) => &mut buffer[..0],
+    }
+}

@@ -1,0 +1,59 @@
+use Rattle.waits.proofs.WaitLaws.{thread-unwritable, thread-joined, thread-awaited}
+use Rattle.waits.proofs.StatusLaws.{signed-fits}
+use Rattle.words.specs.Reading.{tableOf}
+use mathlib.Core.Path.{sym, subst, _∙_}
+use native.Mathlib.Omega.{arith}
+use Rattle.rules.specs.Sizes.{slotCount}
+use mir.Syntax.{w32}
+use mir.Val.{SFits}
+use mir.Facts.{toZ-ofZ}
+use borrow.Author.Needs.{needs}
+use Rattle.waits.proofs.join_to.Statement.{statement}
+use Rattle.waits.proofs.join_to.Tie as tie
+
+is-requires : tie.Need-is-requires
+is-requires c κs = search needs
+
+unwritable-requires : tie.Need-unwritable-requires
+unwritable-requires c κs = search needs
+
+returns : tie.Need-returns
+returns c = thread-unwritable (tableOf (c .before .before .before .before .before .args .t .now)) (c .before .before .before .before .before .args .h) (c .before .before .before .before .before .args .w) (c .before .before .before .before .before .args .s) (c .before .before .before .before .before .args .i) (sym (c .before .before .before .is .ensures) ∙ c .before .before .if1 .taken) (sym (c .before .unwritable .ensures) ∙ c .if2 .taken)
+
+meta-at-requires : tie.Need-meta-at-requires
+meta-at-requires c κs = search needs
+
+free-proc-requires : tie.Need-free-proc-requires
+free-proc-requires c κs = search needs
+
+signed-requires : tie.Need-signed-requires
+signed-requires c κs = search needs
+
+returns-2 : tie.Need-returns-2
+returns-2 c = let e = c .signed .ensures in thread-joined (tableOf (c .before .before .before .before .before .before .before .before .before .before .args .t .now)) (c .before .before .before .before .before .before .before .before .before .before .args .h) (c .before .before .before .before .before .before .before .before .before .before .args .w) (c .before .before .before .before .before .before .before .before .before .before .args .s) (c .before .before .before .before .before .before .before .before .before .before .args .i) (sym (c .before .before .before .before .before .before .before .before .is .ensures) ∙ c .before .before .before .before .before .before .before .if1 .taken) (sym (c .before .before .before .before .before .before .unwritable .ensures) ∙ c .before .before .before .before .before .if2 .left) (c .before .before .before .meta-at .ensures)
+    (toZ-ofZ (subst (SFits w32) (sym e) (signed-fits (c .before .before .before .meta-at .result .xstate))) ∙ e) (c .before .free-proc .ensures)
+
+add-sleep-on : tie.Need-add-sleep-on
+unfolding slotCount
+add-sleep-on c = record { fits = omega (arith, c .before .before .before .before .pre .2) }
+
+sleep-on-requires : tie.Need-sleep-on-requires
+sleep-on-requires c κs = search needs
+
+returns-3 : tie.Need-returns-3
+returns-3 c = thread-awaited (tableOf (c .before .before .before .before .before .args .t .now)) (c .before .before .before .before .before .args .h) (c .before .before .before .before .before .args .w) (c .before .before .before .before .before .args .s) (c .before .before .before .before .before .args .i) (sym (c .before .before .before .is .ensures) ∙ c .before .before .if1 .left) (c .sleep-on .ensures)
+
+pub join-to-spec : {M : Type 1} → statement M
+join-to-spec =
+    tie.close
+    (tie.spec
+    is-requires
+    unwritable-requires
+    returns
+    meta-at-requires
+    free-proc-requires
+    signed-requires
+    returns-2
+    add-sleep-on
+    sleep-on-requires
+    returns-3)
