@@ -17,7 +17,6 @@ use Rattle.rules.specs.declared.ProcState.the-variants.{UNUSED, ALLOCATED, RUNN
 use Rattle.rules.specs.declared.ProcMeta.{ProcMeta}
 use Rattle.rules.specs.declared.Start.{Start}
 use Rattle.rules.specs.declared.Process.{Process}
-use Rattle.rules.specs.Sizes.{slotCount}
 use Rattle.rules.specs.Model.{Table, stateCode, is, at, free}
 use Rattle.rules.specs.Listing.{bytes, digits, stateText, lineOf, linesOf, listing}
 use Rattle.words.specs.declared.slot.StartWords.{StartWords}

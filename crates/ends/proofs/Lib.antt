@@ -1,0 +1,2 @@
+pub mod ReapLaws
+pub mod EndLaws

@@ -1,0 +1,25 @@
+use Rattle.ends.proofs.EndLaws.{reparent-queued, departed}
+use Rattle.words.specs.Reading.{tableOf}
+use borrow.Author.Needs.{needs}
+use Rattle.ends.proofs.depart.Statement.{statement}
+use Rattle.ends.proofs.depart.Tie as tie
+
+reparent-requires : tie.Need-reparent-requires
+reparent-requires c κs = search needs
+
+kin-at-requires : tie.Need-kin-at-requires
+kin-at-requires c κs = search needs
+
+wake-of-requires : tie.Need-wake-of-requires
+wake-of-requires c κs = (c .before .kin-at .ensures .2, reparent-queued (tableOf (c .before .before .before .before .before .args .t .now)) (c .before .before .before .before .before .args .s) (c .before .before .before .reparent .ensures) (c .before .before .before .before .before .pre .2))
+
+zombie-on-requires : tie.Need-zombie-on-requires
+zombie-on-requires c κs = search needs
+
+returns : tie.Need-returns
+returns c = departed (tableOf (c .before .before .before .before .before .before .before .before .args .t .now)) (c .before .before .before .before .before .before .before .before .args .h) (c .before .before .before .before .before .before .before .before .args .x) (c .before .before .before .before .before .before .before .before .args .s) (c .before .before .before .before .before .before .reparent .ensures) (c .zombie-on .ensures) (c .before .before .before .before .kin-at .ensures .0) (c .before .before .wake-of .ensures)
+
+pub depart-spec : {M : Type 1} → statement M
+depart-spec =
+    tie.close
+    (tie.spec reparent-requires kin-at-requires wake-of-requires zombie-on-requires returns)

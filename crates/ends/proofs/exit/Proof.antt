@@ -1,0 +1,31 @@
+use Rattle.ends.proofs.EndLaws.{exit-no, exit-is}
+use Rattle.promises.specs.Did.{did}
+use Rattle.words.specs.Reading.{tableOf}
+use mathlib.Core.Path.{sym, subst, _∙_}
+use Rattle.taking.specs.Parts.{InHart}
+use borrow.Author.Needs.{needs}
+use Rattle.ends.proofs.exit.Statement.{statement}
+use Rattle.ends.proofs.exit.Tie as tie
+
+caller-on-requires : tie.Need-caller-on-requires
+caller-on-requires c κs = search needs
+
+enum-known-c : tie.Need-enum-known-c
+enum-known-c c = search needs
+
+enum-known-c-2 : tie.Need-enum-known-c-2
+enum-known-c-2 c = search needs
+
+exit-by-requires : tie.Need-exit-by-requires
+exit-by-requires c κs = let k = subst (InHart _) (c .before .before .c2 .given .1) (c .before .before .before .before .caller-on .ensures .1) in (k .1, k .0, c .before .before .before .before .before .before .pre)
+
+returns : tie.Need-returns
+returns c = did (c .before .before .before .before .before .pre) (exit-no (tableOf (c .before .before .before .before .before .args .t .now)) _ _ _ (sym (c .before .c .given .1) ∙ c .before .before .before .caller-on .ensures .0))
+
+returns-2 : tie.Need-returns-2
+returns-2 c = did (c .before .before .before .before .before .before .before .pre) (exit-is (tableOf (c .before .before .before .before .before .before .before .args .t .now)) _ _ (sym (c .before .before .before .c2 .given .1) ∙ c .before .before .before .before .before .caller-on .ensures .0) (c .exit-by .ensures))
+
+pub exit-spec : {M : Type 1} → statement M
+exit-spec =
+    tie.close
+    (tie.spec caller-on-requires enum-known-c enum-known-c-2 exit-by-requires returns returns-2)

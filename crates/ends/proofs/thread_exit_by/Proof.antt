@@ -1,0 +1,49 @@
+use Rattle.ends.proofs.EndLaws.{init-stays-too, system-stays-too, thread-exits, leader-exits-too}
+use Rattle.words.specs.Reading.{tableOf}
+use mathlib.Core.Path.{sym, ap, _∙_}
+use Rattle.rules.specs.declared.Parent.{Parent}
+use Rattle.rules.specs.Model.{isSlot}
+use borrow.Author.Needs.{needs}
+use Rattle.ends.proofs.thread_exit_by.Statement.{statement}
+use Rattle.ends.proofs.thread_exit_by.Tie as tie
+
+kin-at-requires : tie.Need-kin-at-requires
+kin-at-requires c κs = search needs
+
+init-requires : tie.Need-init-requires
+init-requires c κs = search needs
+
+is-slot-requires : tie.Need-is-slot-requires
+is-slot-requires c κs = search needs
+
+returns : tie.Need-returns
+returns c = init-stays-too (tableOf (c .before .before .before .before .before .before .args .t .now)) (c .before .before .before .before .before .before .args .h) (c .before .before .before .before .before .before .args .x) (c .before .before .before .before .before .before .args .s) (ap (λ (p : Parent). isSlot (c .before .before .before .before .before .before .args .s) p) (sym (c .before .before .init .ensures .0)) ∙ sym (c .before .is-slot .ensures) ∙ c .if1 .taken)
+
+returns-2 : tie.Need-returns-2
+returns-2 c = system-stays-too (tableOf (c .before .before .before .before .before .before .before .args .t .now)) (c .before .before .before .before .before .before .before .args .h) (c .before .before .before .before .before .before .before .args .x) (c .before .before .before .before .before .before .before .args .s) (ap (λ (p : Parent). isSlot (c .before .before .before .before .before .before .before .args .s) p) (sym (c .before .before .before .init .ensures .0)) ∙ sym (c .before .before .is-slot .ensures) ∙ c .before .if1 .left) (c .before .before .before .before .before .kin-at .ensures .0) (c .if2 .taken)
+
+exit-thread-requires : tie.Need-exit-thread-requires
+exit-thread-requires c κs = (c .before .before .before .before .before .before .before .before .before .pre .0, c .before .before .before .before .before .before .before .before .before .pre .1, c .before .before .before .before .before .before .before .before .before .pre .2 .queued)
+
+returns-3 : tie.Need-returns-3
+returns-3 c = thread-exits (tableOf (c .before .before .before .before .before .before .before .before .before .before .args .t .now)) (c .before .before .before .before .before .before .before .before .before .before .args .h) (c .before .before .before .before .before .before .before .before .before .before .args .x) (c .before .before .before .before .before .before .before .before .before .before .args .s) (ap (λ (p : Parent). isSlot (c .before .before .before .before .before .before .before .before .before .before .args .s) p) (sym (c .before .before .before .before .before .before .init .ensures .0)) ∙ sym (c .before .before .before .before .before .is-slot .ensures) ∙ c .before .before .before .before .if1 .left) (c .before .before .before .before .before .before .before .before .kin-at .ensures .0) (c .before .before .before .if2 .left) (c .before .before .if3 .taken) (c .exit-thread .ensures)
+
+exit-leader-requires : tie.Need-exit-leader-requires
+exit-leader-requires c κs = search needs
+
+returns-4 : tie.Need-returns-4
+returns-4 c = leader-exits-too (tableOf (c .before .before .before .before .before .before .before .before .before .before .args .t .now)) (c .before .before .before .before .before .before .before .before .before .before .args .h) (c .before .before .before .before .before .before .before .before .before .before .args .x) (c .before .before .before .before .before .before .before .before .before .before .args .s) (ap (λ (p : Parent). isSlot (c .before .before .before .before .before .before .before .before .before .before .args .s) p) (sym (c .before .before .before .before .before .before .init .ensures .0)) ∙ sym (c .before .before .before .before .before .is-slot .ensures) ∙ c .before .before .before .before .if1 .left) (c .before .before .before .before .before .before .before .before .kin-at .ensures .0) (c .before .before .before .if2 .left) (c .before .before .if3 .left) (c .exit-leader .ensures)
+
+pub thread-exit-by-spec : {M : Type 1} → statement M
+thread-exit-by-spec =
+    tie.close
+    (tie.spec
+    kin-at-requires
+    init-requires
+    is-slot-requires
+    returns
+    returns-2
+    exit-thread-requires
+    returns-3
+    exit-leader-requires
+    returns-4)

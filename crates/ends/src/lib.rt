@@ -1,0 +1,161 @@
+// Exit and thread exit.
+ghost use mathlib.Core.Path.{_≡_};
+ghost use mathlib.Core.Bool.{false};
+ghost use mathlib.Core.Option.{none, some};
+ghost use Prim.Native.Nat.{_<_};
+ghost use Rattle.rules.specs.Sizes.{slotCount, hartCount};
+ghost use Rattle.rules.specs.Model.{isSlot};
+ghost use Rattle.rules.specs.Calls.{reapFirst, reapThreads, exitedPast, leaderExited, threadEnded, exitedBy, threadExitedBy};
+ghost use Rattle.rules.specs.Runs.{exit, threadExit};
+ghost use Rattle.promises.specs.Order.Sound.{Queued, Sound};
+ghost use Rattle.promises.specs.Did.{Makes, Did};
+ghost use Rattle.words.specs.Reading.{tableOf};
+use rules::Answer;
+use rules::Member;
+use rules::Parent;
+use rules::ProcState;
+use rules::Refusal;
+use scans::Found;
+use scans::Test;
+use taking::Got;
+use words::Table;
+use words::book;
+use words::slot;
+
+// ---- the threads of a process
+// The lowest thread slot of the group, if ZOMBIE, is reaped; was one?
+fn reap_first(t: &mut [u64; Table::WORDS], m: Member) -> bool
+    ensures { λ r. ⌜ (tableOf (now (t .exit)) ≡ reapFirst m (tableOf (now (t .entry)))) × (r ≡ false → tableOf (now (t .exit)) ≡ tableOf (now (t .entry))) ⌝ }
+{
+    let Found::At(i) = scans::find(t, Test::ThreadOf(m)) else {
+        return false;
+    };
+    if scans::is(t, i, ProcState::ZOMBIE) {
+        taking::free_proc(t, i);
+        return true;
+    }
+    false
+}
+
+fn reap_threads(t: &mut [u64; Table::WORDS], m: Member)
+    ensures { λ _. ⌜ tableOf (now (t .exit)) ≡ reapThreads m (tableOf (now (t .entry))) ⌝ }
+{
+    for _ in 0..Table::SLOTS {
+        if !reap_first(t, m) {
+            return;
+        }
+    }
+}
+
+// ---- the end of the caller s
+fn await_thread(t: &mut [u64; Table::WORDS], h: usize, x: u64, s: usize, i: usize) -> Answer
+    requires { ⌜ (h < hartCount) × (s < slotCount) × (i < slotCount) × Queued (tableOf (now t) .core) ⌝ }
+    ensures { λ r. ⌜ Makes (exitedPast (tableOf (now (t .entry))) h x s (some i)) r (tableOf (now (t .exit))) ⌝ }
+{
+    wakes::slay(t, i);
+    moves::sleep_on(t, h, s, (i as u64) + 1);
+    Answer::Blocked
+}
+
+fn depart(t: &mut [u64; Table::WORDS], h: usize, x: u64, s: usize) -> Answer
+    requires { ⌜ (h < hartCount) × (s < slotCount) × Queued (tableOf (now t) .core) ⌝ }
+    ensures { λ r. ⌜ Makes (exitedPast (tableOf (now (t .entry))) h x s none) r (tableOf (now (t .exit))) ⌝ }
+{
+    wakes::reparent(t, s);
+    let k = slot::kin_at(t, s);
+    let parent = k.parent;
+    wakes::wake_of(t, parent);
+    moves::zombie_on(t, h, s, x);
+    Answer::Done
+}
+
+fn exit_leader(t: &mut [u64; Table::WORDS], h: usize, x: u64, s: usize) -> Answer
+    requires { ⌜ (h < hartCount) × (s < slotCount) × Sound (tableOf (now t)) ⌝ }
+    ensures { λ r. ⌜ Makes (leaderExited (tableOf (now (t .entry))) h x s) r (tableOf (now (t .exit))) ⌝ }
+{
+    let k = slot::kin_at(t, s);
+    let group = k.group;
+    reap_threads(t, group);
+    match scans::find(t, Test::ThreadOf(group)) {
+        Found::At(i) => await_thread(t, h, x, s, i),
+        Found::Nothing => depart(t, h, x, s),
+    }
+}
+
+fn exit_thread(t: &mut [u64; Table::WORDS], h: usize, x: u64, s: usize) -> Answer
+    requires { ⌜ (h < hartCount) × (s < slotCount) × Queued (tableOf (now t) .core) ⌝ }
+    ensures { λ r. ⌜ Makes (threadEnded (tableOf (now (t .entry))) h x s) r (tableOf (now (t .exit))) ⌝ }
+{
+    wakes::reparent(t, s);
+    wakes::wake_up(t, (s as u64) + 1);
+    moves::zombie_on(t, h, s, x);
+    Answer::Done
+}
+
+// ---- the calls
+fn is_slot(s: usize, p: Parent) -> bool
+    ensures { λ r. ⌜ r ≡ isSlot s p ⌝ }
+{
+    match p {
+        Parent::Nobody => false,
+        Parent::Of(x) => s == x.0,
+    }
+}
+
+fn exit_by(t: &mut [u64; Table::WORDS], h: usize, x: u64, s: usize) -> Answer
+    requires { ⌜ (h < hartCount) × (s < slotCount) × Sound (tableOf (now t)) ⌝ }
+    ensures { λ r. ⌜ Makes (exitedBy (tableOf (now (t .entry))) h x s) r (tableOf (now (t .exit))) ⌝ }
+{
+    let k = slot::kin_at(t, s);
+    let init = book::init(t);
+    if is_slot(s, init) {
+        return Answer::Refused(Refusal::WrongWayOut);
+    }
+    if k.system {
+        return Answer::Refused(Refusal::WrongWayOut);
+    }
+    if k.thread {
+        return Answer::Refused(Refusal::WrongWayOut);
+    }
+    exit_leader(t, h, x, s)
+}
+
+fn thread_exit_by(t: &mut [u64; Table::WORDS], h: usize, x: u64, s: usize) -> Answer
+    requires { ⌜ (h < hartCount) × (s < slotCount) × Sound (tableOf (now t)) ⌝ }
+    ensures { λ r. ⌜ Makes (threadExitedBy (tableOf (now (t .entry))) h x s) r (tableOf (now (t .exit))) ⌝ }
+{
+    let k = slot::kin_at(t, s);
+    let init = book::init(t);
+    if is_slot(s, init) {
+        return Answer::Refused(Refusal::WrongWayOut);
+    }
+    if k.system {
+        return Answer::Refused(Refusal::WrongWayOut);
+    }
+    if k.thread {
+        return exit_thread(t, h, x, s);
+    }
+    exit_leader(t, h, x, s)
+}
+
+pub fn exit(t: &mut [u64; Table::WORDS], h: usize, x: u64) -> Answer
+    requires { ⌜ Sound (tableOf (now t)) ⌝ }
+    ensures { λ r. ⌜ Did (exit h x) (tableOf (now (t .entry))) r (tableOf (now (t .exit))) ⌝ }
+{
+    let c = taking::caller_on(t, h);
+    match c {
+        Got::No(n) => Answer::Refused(n),
+        Got::Is(s) => exit_by(t, h, x, s),
+    }
+}
+
+pub fn thread_exit(t: &mut [u64; Table::WORDS], h: usize, x: u64) -> Answer
+    requires { ⌜ Sound (tableOf (now t)) ⌝ }
+    ensures { λ r. ⌜ Did (threadExit h x) (tableOf (now (t .entry))) r (tableOf (now (t .exit))) ⌝ }
+{
+    let c = taking::caller_on(t, h);
+    match c {
+        Got::No(n) => Answer::Refused(n),
+        Got::Is(s) => thread_exit_by(t, h, x, s),
+    }
+}
