@@ -1,0 +1,46 @@
+use Rattle.births.proofs.BirthLaws.{init-law}
+use Rattle.words.specs.Reading.{tableOf}
+use mathlib.Core.Path.{ap, _∙_}
+use Rattle.rules.specs.Moves.{setGroup}
+use Rattle.words.specs.Effects.{onBooks, withInit}
+use borrow.Author.Needs.{needs}
+use Rattle.births.proofs.boot_in.Statement.{statement}
+use Rattle.births.proofs.boot_in.Tie as tie
+
+pids-requires : tie.Need-pids-requires
+pids-requires c κs = search needs
+
+new-group-requires : tie.Need-new-group-requires
+new-group-requires c κs = search needs
+
+user-sp-requires : tie.Need-user-sp-requires
+user-sp-requires c κs = search needs
+
+mul-t12 : tie.Need-mul-t12
+mul-t12 c = search needs
+
+fill-requires : tie.Need-fill-requires
+fill-requires c κs = search needs
+
+set-group-requires : tie.Need-set-group-requires
+set-group-requires c κs = search needs
+
+set-init-requires : tie.Need-set-init-requires
+set-init-requires c κs = search needs
+
+returns : tie.Need-returns
+returns c = init-law (tableOf (c .before .before .before .before .before .before .before .before .before .before .before .args .t .now)) (c .before .before .before .before .before .before .before .before .before .before .before .args .s) _ (c .before .before .before .before .before .before .before .new-group .result) (c .before .before .before .before .before .before .user-sp .result) (c .before .before .before .before .before .before .before .before .before .pids .ensures) (c .before .before .before .before .before .before .before .new-group .ensures .0) (c .before .before .before .before .before .before .user-sp .ensures)
+    (c .set-init .ensures ∙ ap (onBooks (withInit _)) (c .before .before .set-group .ensures ∙ ap (onBooks (setGroup _ _)) (c .before .before .before .before .fill .ensures)))
+
+pub boot-in-spec : {M : Type 1} → statement M
+boot-in-spec =
+    tie.close
+    (tie.spec
+    pids-requires
+    new-group-requires
+    user-sp-requires
+    mul-t12
+    fill-requires
+    set-group-requires
+    set-init-requires
+    returns)

@@ -1,0 +1,31 @@
+use Rattle.births.proofs.BirthLaws.{return-no, return-by}
+use Rattle.promises.specs.Did.{did}
+use Rattle.words.specs.Reading.{tableOf}
+use mathlib.Core.Path.{sym, subst, _∙_}
+use Rattle.taking.specs.Parts.{InHart}
+use borrow.Author.Needs.{needs}
+use Rattle.births.proofs.free_system_thread.Statement.{statement}
+use Rattle.births.proofs.free_system_thread.Tie as tie
+
+caller-on-requires : tie.Need-caller-on-requires
+caller-on-requires c κs = search needs
+
+enum-known-c : tie.Need-enum-known-c
+enum-known-c c = search needs
+
+enum-known-c-2 : tie.Need-enum-known-c-2
+enum-known-c-2 c = search needs
+
+return-by-requires : tie.Need-return-by-requires
+return-by-requires c κs = let k = subst (InHart _) (c .before .before .c2 .given .1) (c .before .before .before .before .caller-on .ensures .1) in (k .1, k .0)
+
+returns : tie.Need-returns
+returns c = did (c .before .before .before .before .before .pre) (return-no (tableOf (c .before .before .before .before .before .args .t .now)) _ _ (sym (c .before .c .given .1) ∙ c .before .before .before .caller-on .ensures .0))
+
+returns-2 : tie.Need-returns-2
+returns-2 c = did (c .before .before .before .before .before .before .before .pre) (return-by (tableOf (c .before .before .before .before .before .before .before .args .t .now)) _ (sym (c .before .before .before .c2 .given .1) ∙ c .before .before .before .before .before .caller-on .ensures .0) (c .return-by .ensures))
+
+pub free-system-thread-spec : {M : Type 1} → statement M
+free-system-thread-spec =
+    tie.close
+    (tie.spec caller-on-requires enum-known-c enum-known-c-2 return-by-requires returns returns-2)

@@ -1,0 +1,53 @@
+use Rattle.births.proofs.BirthLaws.{boot-known, boot-no, boot-is}
+use Rattle.promises.specs.Did.{did}
+use Rattle.words.specs.Reading.{tableOf}
+use mathlib.Core.Path.{sym, subst, _∙_}
+use Rattle.taking.specs.Parts.{InSlots}
+use borrow.Author.Needs.{needs}
+use Rattle.births.proofs.user_init.Statement.{statement}
+use Rattle.births.proofs.user_init.Tie as tie
+
+init-requires : tie.Need-init-requires
+init-requires c κs = search needs
+
+enum-told : tie.Need-enum-told
+enum-told c = search needs
+
+returns : tie.Need-returns
+returns c = did (c .before .before .before .before .pre) (boot-known (tableOf (c .before .before .before .before .args .t .now)) {s = c .enum-told .given .0 .0} (sym (c .before .before .init .ensures .0) ∙ c .enum-told .given .1))
+
+enum-told-2 : tie.Need-enum-told-2
+enum-told-2 c = search needs
+
+alloc-proc-requires : tie.Need-alloc-proc-requires
+alloc-proc-requires c κs = search needs
+
+enum-known-n : tie.Need-enum-known-n
+enum-known-n c = search needs
+
+enum-known-s : tie.Need-enum-known-s
+enum-known-s c = search needs
+
+boot-in-requires : tie.Need-boot-in-requires
+boot-in-requires c κs = subst InSlots (c .before .before .s .given .1) (c .before .before .before .before .alloc-proc .ensures .2)
+
+returns-2 : tie.Need-returns-2
+returns-2 c = did (c .before .before .before .before .before .before .before .before .before .pre) (boot-no (tableOf (c .before .before .before .before .before .before .before .before .before .args .t .now)) (sym (c .before .before .before .before .before .before .before .init .ensures .0) ∙ cc) (sym (c .before .n .given .1) ∙ c .before .before .before .alloc-proc .ensures .0) (c .before .before .before .alloc-proc .ensures .1))
+
+returns-3 : tie.Need-returns-3
+returns-3 c = did (c .before .before .before .before .before .before .before .before .before .before .before .pre) (boot-is (tableOf (c .before .before .before .before .before .before .before .before .before .before .before .args .t .now)) (sym (c .before .before .before .before .before .before .before .before .before .init .ensures .0) ∙ cc) (sym (c .before .before .before .s .given .1) ∙ c .before .before .before .before .before .alloc-proc .ensures .0) (c .before .before .before .before .before .alloc-proc .ensures .1) (c .boot-in .ensures))
+
+pub user-init-spec : {M : Type 1} → statement M
+user-init-spec =
+    tie.close
+    (tie.spec
+    init-requires
+    enum-told
+    returns
+    enum-told-2
+    alloc-proc-requires
+    enum-known-n
+    enum-known-s
+    boot-in-requires
+    returns-2
+    returns-3)
