@@ -1,25 +1,26 @@
--- Each way through boot, start and a system thread's return, as the rules have it.
-use Prim.Native.Nat.{ℕ, _*_, _<_}
+-- Each way through boot, start, spawn and a system thread's return, as the rules have it.
+use Prim.Native.Nat.{ℕ, _*_, _≤_, _<_}
 use mathlib.Core.Path.{_≡_, refl, sym, ap, _∙_, subst}
 use mathlib.Core.Bool.{Bool, true, false, not}
-use mathlib.Core.List.{_++_}
+use mathlib.Core.List.{List, _++_}
 use mathlib.Core.Logic.{inl}
 use lib.ListN.{length}
+use borrow.Author.Tests.{lt-ltb, le-ltb}
 use Rattle.rules.specs.declared.ProcState.the-variants.{ALLOCATED}
 use Rattle.rules.specs.declared.Slot.{Slot}
 use Rattle.rules.specs.declared.Parent.{Parent}
 use Rattle.rules.specs.declared.Parent.the-variants.{Nobody, Of}
-use Rattle.rules.specs.declared.Member.the-variants.{In}
+use Rattle.rules.specs.declared.Member.the-variants.{Alone, In}
 use Rattle.rules.specs.declared.Kin.{Kin}
 use Rattle.rules.specs.declared.Refusal.{Refusal}
-use Rattle.rules.specs.declared.Refusal.the-variants.{InitOutOfTurn, WrongWayOut}
+use Rattle.rules.specs.declared.Refusal.the-variants.{InitOutOfTurn, WrongWayOut, NameTooLong}
 use Rattle.rules.specs.declared.Answer.{Answer}
 use Rattle.rules.specs.declared.Answer.the-variants.{Done, Made, Refused}
-use Rattle.rules.specs.Sizes.{slotCount, trampoline, trapframe, pageSize, nameSize, userSp, initSize, initTop}
+use Rattle.rules.specs.Sizes.{slotCount, trampoline, trapframe, pageSize, nameSize, userSp, systemSp, initSize, initTop}
 use Rattle.rules.specs.Model.{Core, Table, at, is, known, taken, pid, slot}
 use Rattle.rules.specs.Moves.{publish, idle, newGroup, openGroup, setGroup, setInit, reap}
-use Rattle.rules.specs.Calls.{fill, madeIn, padded, initName, initIn, bootedIn, booted, startedAt, started, systemReturnedBy, systemReturned}
-use Rattle.rules.specs.Runs.{step, boot, start, systemReturn}
+use Rattle.rules.specs.Calls.{fill, madeIn, padded, initName, initIn, bootedIn, booted, startedAt, started, publishNew, systemIn, spawnedIn, spawned, systemReturnedBy, systemReturned}
+use Rattle.rules.specs.Runs.{step, boot, start, spawn, systemReturn}
 use Rattle.promises.specs.Order.Sound.{Queued}
 use Rattle.promises.specs.Order.States.{quiet}
 use Rattle.promises.specs.Order.Room.{queue-room}
@@ -85,6 +86,34 @@ module _ (t : Table) where
     pub start-is : {u : Table} → is ALLOCATED (at (t .core) (s .0)) ≡ true → u ≡ onCore (publish (s .0)) t → Makes (step t start) Done u
     unfolding startedAt
     start-is z f = at-init e (if-not _ t (ap not z) (moved t (publish (s .0)) f))
+
+-- ---- a system thread
+module _ (t : Table) (name : List ℕ) (entry : ℕ) where
+  pub spawn-long : nameSize < length name → Makes (step t (spawn name entry)) (Refused NameTooLong) t
+  unfolding step spawned
+  spawn-long b = if-so _ (lt-ltb nameSize (length name) b)
+
+  module _ (b : length name ≤ nameSize) where
+    pub spawn-no : {n : Refusal} {u : Table} → No n ≡ takenOf t → u ≡ afterTake t → Makes (step t (spawn name entry)) (Refused n) u
+    unfolding step spawned
+    spawn-no z f = if-not _ t (le-ltb nameSize (length name) b) (take-no t _ z f)
+
+    pub spawn-is : {s : ℕ} {a : Answer} {v u : Table} → Is s ≡ takenOf t → v ≡ afterTake t → Makes (spawnedIn name entry s v) a u → Makes (step t (spawn name entry)) a u
+    unfolding step spawned
+    spawn-is z f m = if-not _ t (le-ltb nameSize (length name) b) (take-is t (spawnedIn name entry) z f m)
+
+  pub system-law : (s n p low high : ℕ) {u : Table} → n ≡ t .books .pids → p ≡ systemSp s → bytesOf low ++ bytesOf high ≡ padded name
+      → u ≡ onCore (publish s) (onCore (fill s (taken n
+      (record { group = Alone; parent = Nobody; thread = false; system = true })
+      (startOf (record { below = 0; sp = p; entry = entry; top = 0; arg = 0; ret = 0; name0 = low; name1 = high })))) t)
+      → Makes (spawnedIn name entry s t) (Made (pid n)) u
+  unfolding spawnedIn madeIn publishNew systemIn onCore trapframe trampoline pageSize
+  system-law s n p low high en ep e f = given (ap (λ (m : ℕ). Made (pid m)) en) (f ∙ λ i. record {
+    core = publish s (fill s (taken (en i)
+        (record { group = Alone; parent = Nobody; thread = false; system = true })
+        (record { trapframe = trapframe; sp = ep i; entry = entry; top = 0; arg = 0; ret = 0; name = e i })) (t .core));
+    books = t .books;
+  })
 
 -- ---- a system thread's return
 module _ (t : Table) (h s : ℕ) {k : Kin} (e : k ≡ at (t .core) s .kin) where

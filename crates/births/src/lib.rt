@@ -1,9 +1,10 @@
-// Boot, start, and a system thread's return.
+// Boot, start, and system threads.
 ghost use mathlib.Core.Path.{_≡_};
 ghost use Prim.Native.Nat.{_<_};
+ghost use lib.ListN.{length};
 ghost use Rattle.rules.specs.Sizes.{slotCount, hartCount};
-ghost use Rattle.rules.specs.Calls.{bootedIn, systemReturnedBy};
-ghost use Rattle.rules.specs.Runs.{boot, start, systemReturn};
+ghost use Rattle.rules.specs.Calls.{bootedIn, spawnedIn, systemReturnedBy};
+ghost use Rattle.rules.specs.Runs.{boot, start, spawn, systemReturn};
 ghost use Rattle.promises.specs.Order.Sound.{Sound};
 ghost use Rattle.promises.specs.Did.{Makes, Did};
 ghost use Rattle.words.specs.Reading.{tableOf};
@@ -24,6 +25,8 @@ use words::slot::StartWords;
 
 // `initname`, the lowest byte first.
 const INIT_NAME: u64 = 7308604897319546473;
+
+const NAME_SIZE: usize = 16;
 
 fn boot_in(t: &mut [u64; Table::WORDS], s: usize) -> Answer
     requires { ⌜ s < slotCount ⌝ }
@@ -90,6 +93,47 @@ pub fn start_init_process(t: &mut [u64; Table::WORDS]) -> Answer
     Answer::Refused(Refusal::InitOutOfTurn)
 }
 
+fn spawn_in(t: &mut [u64; Table::WORDS], name: &[u8], entry: u64, s: usize) -> Answer
+    requires { ⌜ (s < slotCount) × (length (tableOf (now t) .core .queue) < slotCount) ⌝ }
+    ensures { λ r. ⌜ Makes (spawnedIn (now (name .entry)) entry s (tableOf (now (t .entry)))) r (tableOf (now (t .exit))) ⌝ }
+{
+    let n = book::pids(t);
+    let w = names::pack(name);
+    let k = Kin {
+        group: Member::Alone,
+        parent: Parent::Nobody,
+        thread: false,
+        system: true,
+    };
+    let b = StartWords {
+        below: 0,
+        sp: stacks::system_sp(s),
+        entry,
+        top: 0,
+        arg: 0,
+        ret: 0,
+        name0: w.low,
+        name1: w.high,
+    };
+    taking::fill(t, s, n, k, b);
+    moves::make_runnable(t, s);
+    Answer::Made(Pid(n))
+}
+
+pub fn spawn_system_thread(t: &mut [u64; Table::WORDS], name: &[u8], entry: u64) -> Answer
+    requires { ⌜ Sound (tableOf (now t)) ⌝ }
+    ensures { λ r. ⌜ Did (spawn (now (name .entry)) entry) (tableOf (now (t .entry))) r (tableOf (now (t .exit))) ⌝ }
+{
+    if name.len() > NAME_SIZE {
+        return Answer::Refused(Refusal::NameTooLong);
+    }
+    match taking::alloc_proc(t) {
+        Got::No(n) => Answer::Refused(n),
+        Got::Is(s) => spawn_in(t, name, entry, s),
+    }
+}
+
+// Its return frees the slot at once.
 fn return_by(t: &mut [u64; Table::WORDS], h: usize, s: usize) -> Answer
     requires { ⌜ (h < hartCount) × (s < slotCount) ⌝ }
     ensures { λ r. ⌜ Makes (systemReturnedBy (tableOf (now (t .entry))) h s) r (tableOf (now (t .exit))) ⌝ }

@@ -6,7 +6,8 @@ use mathlib.Core.Bool.{Bool, true, false, cond}
 use mathlib.Core.Option.{Option, none, some}
 use lib.Dec.{leb}
 use borrow.Author.Tests.{leb-false}
-use Rattle.rules.specs.declared.ProcState.the-variants.{UNUSED}
+use lib.ListN.{length}
+use Rattle.rules.specs.declared.ProcState.the-variants.{UNUSED, RUNNABLE}
 use Rattle.rules.specs.declared.Parent.{Parent}
 use Rattle.rules.specs.declared.Parent.the-variants.{Nobody, Of}
 use Rattle.rules.specs.declared.Member.the-variants.{Alone, In}
@@ -14,11 +15,15 @@ use Rattle.rules.specs.declared.Refusal.{Refusal}
 use Rattle.rules.specs.declared.Refusal.the-variants.{NoSuchHart, PidsSpent, TableFull, NoGroup}
 use Rattle.rules.specs.declared.Answer.{Answer}
 use Rattle.rules.specs.declared.Answer.the-variants.{Refused}
-use Rattle.rules.specs.Sizes.{hartCount, pidTop}
-use Rattle.rules.specs.Model.{Core, Table, at, hartAt, free, is, slot}
-use Rattle.rules.specs.Moves.{lowest}
+use Rattle.rules.specs.Sizes.{slotCount, hartCount, pidTop}
+use Rattle.rules.specs.Model.{Core, Table, at, hartAt, groupAt, free, is, slot}
+use Rattle.rules.specs.Moves.{lowest, spend}
 use Rattle.rules.specs.Calls.{Outcome, gives, moves, refuse, refuseIf, runner, onHart, member, inGroup, found, spent, taking}
+use Rattle.promises.specs.Laws.Lists.{tally-lt}
 use Rattle.promises.specs.Laws.Scans.{lowest-passes}
+use Rattle.promises.specs.Order.Sound.{names, Sound}
+use Rattle.promises.specs.Order.States.{other}
+use Rattle.promises.specs.Order.Room.{room-by}
 use Rattle.promises.specs.Order.Chains.{onCore}
 use Rattle.promises.specs.Did.{Makes}
 use Rattle.taking.specs.declared.Got.the-variants.{No, Is}
@@ -49,6 +54,28 @@ taken-slot t u s e f = go (leb pidTop (t .books .pids)) refl (lowest (is UNUSED)
     go false p none q e f = let z : _≡_ {A = ℕ} 0 1 = cc in absurd (omega arith)
     go false p (some i) q e f = let z : s ≡ i = cc in
         record { table = f; unused = rw z (lowest-passes (is UNUSED) (t .core .slots) free i q); room = leb-false pidTop (t .books .pids) p }
+
+-- .. so the queue has room for it, and every group for one more slot
+module _ (t : Table) {u : Table} {s : ℕ} (w : Sound t) (l : s < slotCount) (e : Is s ≡ takenOf t) (f : u ≡ afterTake t) where
+  took : Took t u s
+  took = taken-slot t u s e f
+
+  pub taken-room : length (u .core .queue) < slotCount
+  unfolding spent
+  taken-room = rw (took .table) (room-by (t .core) (w .queued) s l (other UNUSED RUNNABLE (at (t .core) s) (took .unused)))
+
+  nobody's : (g : ℕ) → names g (at (t .core) s) ≡ false
+  unfolding free
+  nobody's g = ap (names g) (w .tidy s .unused (took .unused))
+
+  pub taken-count : (g : ℕ) → groupAt (u .books) g .count < slotCount
+  unfolding spent spend
+  taken-count g = rw (took .table) (omega (
+    arith,
+    w .counted .count g,
+    w .queued .tall,
+    tally-lt (names g) (t .core .slots) free s (omega (arith, w .queued .tall, l)) (nobody's g),
+  ))
 
 -- ---- a call's outcome, head by head: each law turns an outcome of what follows into one of the whole
 along : {o p : Outcome} {a : Answer} {u : Table} → o ≡ p → Makes p a u → Makes o a u

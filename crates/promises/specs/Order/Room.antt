@@ -1,4 +1,4 @@
--- The queue never outgrows the table, and a used slot that does not wait finds room.
+-- The queue never outgrows the table, and a slot that does not wait finds room.
 use Prim.Native.Nat.{ℕ, _≤_, _<_}
 use native.Mathlib.Omega.{arith}
 use mathlib.Core.Path.{_≡_, refl, ap, _∙_}
@@ -29,9 +29,8 @@ module _ (c : Core) (v : Queued c) where
   pub queue-fits : length (c .queue) ≤ slotCount
   queue-fits = omega (arith, queue-sum, sum-most (λ s. tally (eqb s) (c .queue)) counts-small slotCount)
 
+  pub room-by : (s : ℕ) → s < slotCount → is RUNNABLE (at c s) ≡ false → length (c .queue) < slotCount
+  room-by s l r = omega (arith, queue-sum, sum-below (λ i. tally (eqb i) (c .queue)) counts-small slotCount s l (v .queue s ∙ ap ind r))
+
   pub queue-room : (s : ℕ) → is UNUSED (at c s) ≡ false → is RUNNABLE (at c s) ≡ false → length (c .queue) < slotCount
-  queue-room s u r = omega (
-    arith,
-    queue-sum,
-    sum-below (λ i. tally (eqb i) (c .queue)) counts-small slotCount s (omega (arith, v .tall, used-range (c .slots) s u)) (v .queue s ∙ ap ind r),
-  )
+  queue-room s u r = room-by s (omega (arith, v .tall, used-range (c .slots) s u)) r

@@ -1,0 +1,2 @@
+pub mod ForkLaws
+pub mod ThreadLaws

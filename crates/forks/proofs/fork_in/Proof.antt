@@ -1,0 +1,55 @@
+use Rattle.forks.proofs.ForkLaws.{child-law}
+use Rattle.words.specs.Reading.{tableOf}
+use mathlib.Core.Path.{ap, _∙_}
+use Rattle.rules.specs.Moves.{change, publish, setGroup}
+use Rattle.rules.specs.Calls.{fill}
+use Rattle.promises.specs.Order.Chains.{onCore}
+use Rattle.words.specs.Effects.{onBooks}
+use Rattle.rules.specs.declared.Start.{Start}
+use borrow.Author.Needs.{needs}
+use Rattle.forks.proofs.fork_in.Statement.{statement}
+use Rattle.forks.proofs.fork_in.Tie as tie
+
+pids-requires : tie.Need-pids-requires
+pids-requires c κs = search needs
+
+group-at-requires : tie.Need-group-at-requires
+group-at-requires c κs = search needs
+
+new-group-requires : tie.Need-new-group-requires
+new-group-requires c κs = search needs
+
+start-at-requires : tie.Need-start-at-requires
+start-at-requires c κs = search needs
+
+user-sp-requires : tie.Need-user-sp-requires
+user-sp-requires c κs = search needs
+
+fill-requires : tie.Need-fill-requires
+fill-requires c κs = search needs
+
+set-group-requires : tie.Need-set-group-requires
+set-group-requires c κs = search needs
+
+make-runnable-requires : tie.Need-make-runnable-requires
+unfolding fill change onCore onBooks
+make-runnable-requires c κs = (c .before .before .before .before .before .before .before .before .before .before .before .before .before .before .pre .2, rw (c .before .set-group .ensures, c .before .before .before .fill .ensures) (c .before .before .before .before .before .before .before .before .before .before .before .before .before .before .pre .3))
+
+returns : tie.Need-returns
+returns c = child-law (tableOf (c .before .before .before .before .before .before .before .before .before .before .before .before .before .before .before .args .t .now)) (c .before .before .before .before .before .before .before .before .before .before .before .before .before .before .before .args .s) (c .before .before .before .before .before .before .before .before .before .before .before .before .before .before .before .args .g) (c .before .before .before .before .before .before .before .before .before .before .before .before .before .before .before .args .c) _ (c .before .before .before .before .before .before .before .before .before .new-group .result) (c .before .before .before .before .before .before .user-sp .result) (c .before .before .before .before .before .before .before .start-at .result .name0) (c .before .before .before .before .before .before .before .start-at .result .name1)
+    (c .before .before .before .before .before .before .before .before .before .before .before .before .before .pids .ensures) (c .before .before .before .before .before .before .before .before .before .before .before .group-at .ensures) (c .before .before .before .before .before .before .before .before .before .new-group .ensures .0) (ap (λ (b : Start). b .name) (c .before .before .before .before .before .before .before .start-at .ensures)) (c .before .before .before .before .before .before .user-sp .ensures)
+    (c .make-runnable .ensures ∙ ap (onCore (publish _)) (c .before .before .set-group .ensures ∙ ap (onBooks (setGroup _ _)) (c .before .before .before .before .fill .ensures)))
+
+pub fork-in-spec : {M : Type 1} → statement M
+fork-in-spec =
+    tie.close
+    (tie.spec
+    pids-requires
+    group-at-requires
+    new-group-requires
+    start-at-requires
+    user-sp-requires
+    fill-requires
+    set-group-requires
+    make-runnable-requires
+    returns)

@@ -1,0 +1,38 @@
+use Rattle.growth.proofs.SizeLaws.{less-fits, less-cast, less-size, more-cast, more-size}
+use mathlib.Core.Path.{_∙_}
+use borrow.Author.Needs.{needs}
+use Rattle.growth.proofs.new_size.Statement.{statement}
+use Rattle.growth.proofs.new_size.Tie as tie
+
+sub-lowered : tie.Need-sub-lowered
+sub-lowered c = less-fits (c .before .args .count) (c .before .fits .count) (c .if1 .taken)
+
+cast-lowered : tie.Need-cast-lowered
+cast-lowered c = less-cast (c .before .args .count) (c .before .fits .count) (c .if1 .taken)
+
+lowered-requires : tie.Need-lowered-requires
+lowered-requires c κs = search needs
+
+returns : tie.Need-returns
+returns c = c .lowered .ensures ∙ less-size (c .before .before .args .count) (c .before .before .fits .count) (c .before .if1 .taken) (c .before .before .args .size)
+
+cast-raised : tie.Need-cast-raised
+cast-raised c = more-cast (c .before .args .count) (c .before .fits .count) (c .if1 .left)
+
+raised-requires : tie.Need-raised-requires
+raised-requires c κs = search needs
+
+returns-2 : tie.Need-returns-2
+returns-2 c = c .raised .ensures ∙ more-size (c .before .before .args .count) (c .before .before .fits .count) (c .before .if1 .left) (c .before .before .args .size)
+
+pub new-size-spec : {M : Type 1} → statement M
+new-size-spec =
+    tie.close
+    (tie.spec
+    sub-lowered
+    cast-lowered
+    lowered-requires
+    returns
+    cast-raised
+    raised-requires
+    returns-2)
