@@ -5,7 +5,10 @@ ghost use Rattle.rules.specs.Sizes.{slotCount, trampoline, trapframe, kernelSta
 
 pub const PAGE: u64 = 4096;
 
-const TRAMPOLINE: u64 = 274877906944 - PAGE;
+// The last page below 2^38, and the page below it.
+const TRAMPOLINE: u64 = (1 << 38) - PAGE;
+
+pub const TRAPFRAME: u64 = TRAMPOLINE - PAGE;
 
 // Four pages and a guard page.
 fn kernel_stack(s: usize) -> u64
