@@ -1,5 +1,4 @@
 // Boot, start, and system threads.
-ghost use mathlib.Core.Path.{_≡_};
 ghost use Prim.Native.Nat.{_<_};
 ghost use lib.ListN.{length};
 ghost use Rattle.rules.specs.Sizes.{slotCount, hartCount};

@@ -1,4 +1,3 @@
-mod TextLaws
 mod DigitLaws
 mod NameLaws
 mod LineLaws

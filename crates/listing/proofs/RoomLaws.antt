@@ -12,7 +12,7 @@ use Rattle.rules.specs.declared.Room.the-variants.{Fits, Short}
 use Rattle.rules.specs.Model.{Table}
 use Rattle.rules.specs.Listing.{listing, fitsIn, roomFor, listedPart, listedBuffer}
 use Rattle.promises.specs.ListingBound.{front-written}
-use Rattle.listing.specs.Text.{put}
+use Rattle.buffers.specs.Text.{put}
 
 pub room-fits : (t : Table) (n room : ℕ) → n ≡ length (listing t) → n ≤ room → Fits n ≡ roomFor t room
 unfolding roomFor fitsIn

@@ -4,7 +4,7 @@ ghost use Prim.Native.Nat.{_≤_};
 ghost use lib.ListN.{length};
 ghost use Rattle.rules.specs.Listing.{listing, roomFor, listedPart, listedBuffer};
 ghost use Rattle.words.specs.Reading.{tableOf};
-ghost use Rattle.listing.specs.Text.{put};
+ghost use Rattle.buffers.specs.Text.{put};
 use rules::Refusal;
 use rules::Room;
 use words::Table;
@@ -12,7 +12,6 @@ use words::Table;
 pub mod digits; // a number in decimal
 mod line; // a slot's line
 mod name; // a slot's name
-mod text; // text in a buffer
 
 fn text_len(t: &[u64; Table::WORDS]) -> usize
     ensures { λ r. ⌜ r ≡ length (listing (tableOf (now (t .entry)))) ⌝ }

@@ -6,11 +6,10 @@ ghost use lib.ListN.{length};
 ghost use Rattle.rules.specs.Sizes.{slotCount, lineTop};
 ghost use Rattle.rules.specs.Listing.{stateText};
 ghost use Rattle.words.specs.Reading.{tableOf, bytesOf};
-ghost use Rattle.listing.specs.Text.{Wrote};
+ghost use Rattle.buffers.specs.Text.{Wrote};
 ghost use Rattle.listing.specs.Lines.{pidText, stateLabelled, nameText, lineAt};
 use crate::digits;
 use crate::name;
-use crate::text;
 use rules::ProcState;
 use words::Table;
 use words::slot;
@@ -52,8 +51,8 @@ fn write_pid(buffer: &mut [u8], at: usize, n: u64) -> usize
     let d = digits::decimal(n);
     let bytes = d.bytes;
     let from = d.from;
-    let on = text::write(buffer, at, b"pid: ");
-    text::write(buffer, on, &bytes[from..])
+    let on = buffers::write(buffer, at, b"pid: ");
+    buffers::write(buffer, on, &bytes[from..])
 }
 
 fn write_state(buffer: &mut [u8], at: usize, s: ProcState) -> usize
@@ -61,12 +60,12 @@ fn write_state(buffer: &mut [u8], at: usize, s: ProcState) -> usize
     ensures { λ r. ⌜ Wrote (now (buffer .entry)) at (stateLabelled s) (now (buffer .exit)) r ⌝ }
 {
     match s {
-        ProcState::UNUSED => text::write(buffer, at, b" state: UNUSED"),
-        ProcState::ALLOCATED => text::write(buffer, at, b" state: ALLOCATED"),
-        ProcState::RUNNABLE => text::write(buffer, at, b" state: RUNNABLE"),
-        ProcState::RUNNING => text::write(buffer, at, b" state: RUNNING"),
-        ProcState::SLEEPING => text::write(buffer, at, b" state: SLEEPING"),
-        ProcState::ZOMBIE => text::write(buffer, at, b" state: ZOMBIE"),
+        ProcState::UNUSED => buffers::write(buffer, at, b" state: UNUSED"),
+        ProcState::ALLOCATED => buffers::write(buffer, at, b" state: ALLOCATED"),
+        ProcState::RUNNABLE => buffers::write(buffer, at, b" state: RUNNABLE"),
+        ProcState::RUNNING => buffers::write(buffer, at, b" state: RUNNING"),
+        ProcState::SLEEPING => buffers::write(buffer, at, b" state: SLEEPING"),
+        ProcState::ZOMBIE => buffers::write(buffer, at, b" state: ZOMBIE"),
     }
 }
 
@@ -77,9 +76,9 @@ fn write_name(buffer: &mut [u8], at: usize, a: u64, b: u64) -> usize
     let n = name::shown_name(a, b);
     let bytes = n.bytes;
     let len = n.len;
-    let on = text::write(buffer, at, b" name: ");
-    let after = text::write(buffer, on, &bytes[..len]);
-    text::write(buffer, after, b"\n")
+    let on = buffers::write(buffer, at, b" name: ");
+    let after = buffers::write(buffer, on, &bytes[..len]);
+    buffers::write(buffer, after, b"\n")
 }
 
 pub fn write_line(t: &[u64; Table::WORDS], s: usize, buffer: &mut [u8], at: usize) -> usize

@@ -1,7 +1,6 @@
 // What a user of the table may ask without changing it. A slot, group or hart that the table does not have is as a free one.
 ghost use mathlib.Core.Path.{_≡_};
 ghost use mathlib.Core.Bool.{cond};
-ghost use Prim.Native.Nat.{_<_};
 ghost use lib.ListN.{length, getD};
 ghost use lib.Dec.{ltb};
 ghost use Rattle.rules.specs.declared.Parent.the-variants.{Nobody, Of};

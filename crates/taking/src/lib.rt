@@ -3,7 +3,7 @@ ghost use mathlib.Core.Path.{_≡_};
 ghost use Prim.Native.Nat.{_<_};
 ghost use Rattle.rules.specs.Sizes.{slotCount, groupCount};
 ghost use Rattle.rules.specs.Model.{taken};
-ghost use Rattle.rules.specs.Moves.{joinGroup, leaveGroup, setGroup, less, reap};
+ghost use Rattle.rules.specs.Moves.{change, toFree, joinGroup, leaveGroup, setGroup, less, reap};
 ghost use Rattle.rules.specs.Model.{groupAt};
 ghost use Rattle.rules.specs.Calls.{fill};
 ghost use Rattle.promises.specs.Order.Chains.{onCore};
@@ -124,14 +124,11 @@ fn leave_group(t: &mut [u64; Table::WORDS], m: Member)
     leave(t, g);
 }
 
-// Freed: the slot, and its place in its group.
-pub fn free_proc(t: &mut [u64; Table::WORDS], i: usize)
+// A slot's three parts as a free slot has them.
+fn clear(t: &mut [u64; Table::WORDS], i: usize)
     requires { ⌜ i < slotCount ⌝ }
-    ensures { λ _. ⌜ tableOf (now (t .exit)) ≡ reap i (tableOf (now (t .entry))) ⌝ }
+    ensures { λ _. ⌜ tableOf (now (t .exit)) ≡ onCore (change toFree i) (tableOf (now (t .entry))) ⌝ }
 {
-    let k = slot::kin_at(t, i);
-    let group = k.group;
-    leave_group(t, group);
     slot::set_meta(
         t,
         i,
@@ -168,4 +165,15 @@ pub fn free_proc(t: &mut [u64; Table::WORDS], i: usize)
             name1: 0,
         },
     );
+}
+
+// Freed: the slot, and its place in its group.
+pub fn free_proc(t: &mut [u64; Table::WORDS], i: usize)
+    requires { ⌜ i < slotCount ⌝ }
+    ensures { λ _. ⌜ tableOf (now (t .exit)) ≡ reap i (tableOf (now (t .entry))) ⌝ }
+{
+    let k = slot::kin_at(t, i);
+    let group = k.group;
+    leave_group(t, group);
+    clear(t, i);
 }

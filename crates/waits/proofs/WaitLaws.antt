@@ -1,6 +1,5 @@
 -- Each way through wait and join, as the rules have it.
 use Prim.Native.Nat.{ℕ, _+_}
-use native.Mathlib.Omega.{arith}
 use mathlib.Core.Path.{_≡_, sym, ap, _∙_, subst}
 use mathlib.Core.Bool.{true, false, not, _||_}
 use mathlib.Core.Option.{Option, none, some}
@@ -29,11 +28,10 @@ use Rattle.scans.specs.declared.Test.the-variants.{ChildOf, ZombieChildOf, Thre
 use Rattle.scans.specs.Tests.{passes, asOption}
 use Rattle.taking.specs.declared.Got.the-variants.{No, Is}
 use Rattle.taking.specs.Parts.{callerOf}
-use Rattle.taking.proofs.Facts.{given, moved, if-so, if-not, found-none, found-at, hart-no, hart-is, group-alone, group-in}
+use Rattle.taking.proofs.Facts.{own-channel, given, moved, if-so, if-not, found-none, found-at, hart-no, hart-is, group-alone, group-in}
 
--- the code's channel of a slot is the slot's own
 sleeps-own : (t : Table) (h s i : ℕ) {u : Table} → u ≡ onCore (sleepOn h s (i + 1)) t → u ≡ onCore (sleepOn h s (ownChannel i)) t
-sleeps-own t h s i e = let z : i + 1 ≡ ownChannel i = omega arith in e ∙ ap (λ (ch : ℕ). onCore (sleepOn h s ch) t) z
+sleeps-own t h s i e = e ∙ ap (λ (ch : ℕ). onCore (sleepOn h s ch) t) (own-channel i)
 
 -- ---- wait
 module _ (t : Table) (h : ℕ) (w : Wish) (s : ℕ) where

@@ -16,12 +16,22 @@ use crate::word;
 use rules::Group;
 use rules::Parent;
 
+const SIZE_COLUMN: usize = 18;
+
+const COUNT_COLUMN: usize = 19;
+
+const INIT_CELL: usize = 2;
+
+const PIDS_CELL: usize = 3;
+
+const FIRST_HART: usize = 4;
+
 pub fn group_at(t: &[u64; Table::WORDS], g: usize) -> Group
     requires { ⌜ g < groupCount ⌝ }
     ensures { λ r. ⌜ r ≡ groupAt (tableOf (now (t .entry)) .books) g ⌝ }
 {
-    let size = get(t, 18, g);
-    let count = get(t, 19, g);
+    let size = get(t, SIZE_COLUMN, g);
+    let count = get(t, COUNT_COLUMN, g);
     Group { size, count }
 }
 
@@ -29,45 +39,45 @@ pub fn set_group(t: &mut [u64; Table::WORDS], g: usize, x: Group)
     requires { ⌜ g < groupCount ⌝ }
     ensures { λ _. ⌜ tableOf (now (t .exit)) ≡ onBooks (setGroup g x) (tableOf (now (t .entry))) ⌝ }
 {
-    put(t, 18, g, x.size);
-    put(t, 19, g, x.count);
+    put(t, SIZE_COLUMN, g, x.size);
+    put(t, COUNT_COLUMN, g, x.count);
 }
 
 pub fn hart_at(t: &[u64; Table::WORDS], h: usize) -> Parent
     requires { ⌜ h < hartCount ⌝ }
     ensures { λ r. ⌜ (r ≡ hartAt (tableOf (now (t .entry)) .core) h) × InTable r ⌝ }
 {
-    word::parent_of(get_cell(t, 4 + h))
+    word::parent_of(get_cell(t, FIRST_HART + h))
 }
 
 pub fn set_hart(t: &mut [u64; Table::WORDS], h: usize, p: Parent)
     requires { ⌜ (h < hartCount) × InTable p ⌝ }
     ensures { λ _. ⌜ tableOf (now (t .exit)) ≡ onCore (withHart h p) (tableOf (now (t .entry))) ⌝ }
 {
-    put_cell(t, 4 + h, word::parent_word(p));
+    put_cell(t, FIRST_HART + h, word::parent_word(p));
 }
 
 pub fn init(t: &[u64; Table::WORDS]) -> Parent
     ensures { λ r. ⌜ (r ≡ tableOf (now (t .entry)) .books .init) × InTable r ⌝ }
 {
-    word::parent_of(get_cell(t, 2))
+    word::parent_of(get_cell(t, INIT_CELL))
 }
 
 pub fn set_init(t: &mut [u64; Table::WORDS], p: Parent)
     requires { ⌜ InTable p ⌝ }
     ensures { λ _. ⌜ tableOf (now (t .exit)) ≡ onBooks (withInit p) (tableOf (now (t .entry))) ⌝ }
 {
-    put_cell(t, 2, word::parent_word(p));
+    put_cell(t, INIT_CELL, word::parent_word(p));
 }
 
 pub fn pids(t: &[u64; Table::WORDS]) -> u64
     ensures { λ r. ⌜ r ≡ tableOf (now (t .entry)) .books .pids ⌝ }
 {
-    get_cell(t, 3)
+    get_cell(t, PIDS_CELL)
 }
 
 pub fn set_pids(t: &mut [u64; Table::WORDS], n: u64)
     ensures { λ _. ⌜ tableOf (now (t .exit)) ≡ onBooks (withPids n) (tableOf (now (t .entry))) ⌝ }
 {
-    put_cell(t, 3, n);
+    put_cell(t, PIDS_CELL, n);
 }

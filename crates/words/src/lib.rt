@@ -22,8 +22,10 @@ impl Table {
     pub const SLOTS: usize = 64;
 
     pub const HARTS: usize = 8;
-    // 21 columns, 4 cells, and a cell for each hart
-    pub const WORDS: usize = 21 * Table::SLOTS + 4 + Table::HARTS;
+
+    const COLUMNS: usize = 21;
+    // the columns, 4 cells, and a cell for each hart
+    pub const WORDS: usize = Table::COLUMNS * Table::SLOTS + 4 + Table::HARTS;
 
     pub fn new() -> Self
         ensures { λ r. ⌜ (tableOf (r .words) ≡ fresh) × Sound (tableOf (r .words)) ⌝ }
@@ -46,7 +48,7 @@ fn get_cell(t: &[u64; Table::WORDS], k: usize) -> u64
     requires { ⌜ k < 4 + hartCount ⌝ }
     ensures { λ r. ⌜ r ≡ cell (now (t .entry)) k ⌝ }
 {
-    t[21 * Table::SLOTS + k]
+    t[Table::COLUMNS * Table::SLOTS + k]
 }
 
 // A store goes by way of a slice: that tells the caller how long its array is.
@@ -68,5 +70,5 @@ fn put_cell(t: &mut [u64; Table::WORDS], k: usize, n: u64)
     requires { ⌜ k < 4 + hartCount ⌝ }
     ensures { λ _. ⌜ (now (t .exit) ≡ set (now (t .entry)) (cellAt k) n) × (length (now (t .entry)) ≡ wordCount) ⌝ }
 {
-    store(t, 21 * Table::SLOTS + k, n);
+    store(t, Table::COLUMNS * Table::SLOTS + k, n);
 }

@@ -7,9 +7,9 @@ use lib.ListN.{length}
 use Rattle.rules.specs.Sizes.{slotCount}
 use Rattle.rules.specs.Model.{Table}
 use Rattle.words.specs.Reading.{tableOf}
-use Rattle.listing.specs.Text.{Wrote}
+use Rattle.buffers.specs.Text.{Wrote}
 use Rattle.listing.specs.Lines.{lineAt, linesBelow}
-use Rattle.listing.proofs.TextLaws.{wrote-none, fits-next, wrote-more}
+use Rattle.buffers.proofs.TextLaws.{wrote-none, fits-next, wrote-more}
 use Rattle.listing.proofs.LineLaws.{below-none, below-more, below-all, below-fits}
 use Rattle.listing.proofs.write_all.Statement.{statement}
 use Rattle.listing.proofs.write_all.Tie as tie

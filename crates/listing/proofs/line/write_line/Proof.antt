@@ -5,7 +5,7 @@ use lib.ListN.{length}
 use borrow.Author.Needs.{needs}
 use Rattle.words.specs.Reading.{tableOf, bytesOf}
 use Rattle.listing.specs.Lines.{pidText, stateLabelled, nameText, lineAt}
-use Rattle.listing.proofs.TextLaws.{wrote-none, three-first, three-next, three-last, three-wrote}
+use Rattle.buffers.proofs.TextLaws.{wrote-none, three-first, three-next, three-last, three-wrote}
 use Rattle.listing.proofs.LineLaws.{used, line-none, line-here}
 use Rattle.listing.proofs.line.write_line.Statement.{statement}
 use Rattle.listing.proofs.line.write_line.Tie as tie

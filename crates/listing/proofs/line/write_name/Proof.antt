@@ -8,7 +8,7 @@ use borrow.Author.Needs.{needs}
 use Rattle.rules.specs.Listing.{bytes}
 use Rattle.words.specs.Reading.{bytesOf}
 use Rattle.listing.specs.Lines.{nameShown, nameText}
-use Rattle.listing.proofs.TextLaws.{three-next, three-last, three-wrote}
+use Rattle.buffers.proofs.TextLaws.{three-next, three-last, three-wrote}
 use Rattle.listing.proofs.line.write_name.Statement.{statement}
 use Rattle.listing.proofs.line.write_name.Tie as tie
 

@@ -5,7 +5,7 @@ use lib.ListN.{length, take, drop}
 use borrow.Author.Needs.{needs}
 use Rattle.rules.specs.Listing.{bytes, digits}
 use Rattle.listing.specs.Lines.{pidText}
-use Rattle.listing.proofs.TextLaws.{part-from, fits-next, wrote-more}
+use Rattle.buffers.proofs.TextLaws.{part-from, fits-next, wrote-more}
 use Rattle.listing.proofs.line.write_pid.Statement.{statement}
 use Rattle.listing.proofs.line.write_pid.Tie as tie
 

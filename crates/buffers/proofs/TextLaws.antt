@@ -6,7 +6,7 @@ use mathlib.Core.Path.{_≡_, sym, ap, _∙_}
 use mathlib.Core.List.{List, [], _++_, append-assoc, append-nil}
 use lib.ListN.{length, take, drop, length-append, length-drop, take-append-drop}
 use lib.Seq.{length-take-le, take-all, take-at, drop-at, drop-drop}
-use Rattle.listing.specs.Text.{put, Wrote}
+use Rattle.buffers.specs.Text.{put, Wrote}
 
 module _ (b : List ℕ) (k : ℕ) (p : List ℕ) (fits : k + length p ≤ length b) where
   front-length : length (take k b ++ p) ≡ k + length p

@@ -1,7 +1,7 @@
 // Text in a lent buffer.
 ghost use Prim.Native.Nat.{_+_, _≤_};
 ghost use lib.ListN.{length};
-ghost use Rattle.listing.specs.Text.{Wrote};
+ghost use Rattle.buffers.specs.Text.{Wrote};
 
 // Puts the piece at a place, and returns the place after it.
 pub fn write(buffer: &mut [u8], at: usize, piece: &[u8]) -> usize

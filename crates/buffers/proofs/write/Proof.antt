@@ -4,9 +4,9 @@ use native.Mathlib.Numerals.{add-one}
 use mathlib.Core.Path.{_≡_, refl}
 use lib.ListN.{length, length-set}
 use lib.Seq.{paste, paste-zero, paste-suc, take-length}
-use Rattle.listing.specs.Text.{put}
-use Rattle.listing.proofs.text.write.Statement.{statement}
-use Rattle.listing.proofs.text.write.Tie as tie
+use Rattle.buffers.specs.Text.{put}
+use Rattle.buffers.proofs.write.Statement.{statement}
+use Rattle.buffers.proofs.write.Tie as tie
 
 abbrev Inv-loop : tie.InvT-loop
 Inv-loop buffer₀ at piece j₀ buffer j = (j ≤ length piece) × (length buffer ≡ length buffer₀) × (buffer ≡ paste buffer₀ at piece j)
