@@ -1,5 +1,6 @@
--- Laws that know nothing of the table: lists and counts, scans, the ring, decimal digits.
+-- Laws that know nothing of the table: lists and counts, scans, the ring, decimal digits, signs.
 pub mod Lists
 pub mod Scans
 pub mod Ring
 pub mod Digits
+pub mod Signs

@@ -33,7 +33,7 @@ pub enum Call {
     Grow(usize, i64, bool),
 }
 
-fn least(a: usize, b: usize) -> usize
+pub fn least(a: usize, b: usize) -> usize
     ensures { λ r. ⌜ (r ≡ least a b) × (r ≤ b) ⌝ }
 {
     if a < b {

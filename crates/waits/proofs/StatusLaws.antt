@@ -1,5 +1,5 @@
 -- The low 32 bits of a status, read as a two's complement number, as the code computes them.
-use Prim.Native.Nat.{ℕ, zero, suc, _+_, _-_, _%_, _^_, _≤_, _<_}
+use Prim.Native.Nat.{ℕ, _-_, _%_, _^_, _≤_, _<_}
 use native.Mathlib.Omega.{arith}
 use mathlib.Core.Path.{_≡_, refl, ap, _∙_}
 use mathlib.Core.Bool.{Bool, true, false, cond}
@@ -7,25 +7,19 @@ use lib.Dec.{ltb}
 use lib.IntN.{ℤ, pos, negsuc, _-ℤ_}
 use mir.Syntax.{w32}
 use mir.Val.{SFits, toZ}
-use mir.Facts.{toZ-ofZ}
+use mir.Facts.{toZ-pos}
 use borrow.Author.Tests.{lt-ltb, le-ltb, ltb-true, ltb-false}
 use Rattle.rules.specs.Calls.{signed}
-
-low-is : (n : ℕ) → n < 2 ^ 31 → toZ w32 n ≡ pos n
-low-is n b = toZ-ofZ {w = w32} {z = pos n} (record { sfits = b })
-
-minus : (n : ℕ) → negsuc 0 -ℤ pos n ≡ negsuc n
-minus zero = refl
-minus (suc n) = let z : 0 + n ≡ n = omega arith in ap (λ (k : ℕ). negsuc (suc k)) z
+use Rattle.promises.specs.Laws.Signs.{minus}
 
 pub signed-low : (x : ℕ) → x % 2 ^ 32 < 2 ^ 31 → toZ w32 (x % 2 ^ 32) ≡ signed x
 unfolding signed
-signed-low x b = low-is (x % 2 ^ 32) b ∙ rw (lt-ltb (x % 2 ^ 32) (2 ^ 31) b)
+signed-low x b = toZ-pos w32 b ∙ rw (lt-ltb (x % 2 ^ 32) (2 ^ 31) b)
 
 pub signed-high : (x : ℕ) → 2 ^ 31 ≤ x % 2 ^ 32 → negsuc 0 -ℤ toZ w32 (2 ^ 32 - 1 - x % 2 ^ 32) ≡ signed x
 unfolding signed
 signed-high x b = let y : ℕ = 2 ^ 32 - 1 - x % 2 ^ 32 in
-    ap (λ (z : ℤ). negsuc 0 -ℤ z) (low-is y (omega arith)) ∙ minus y ∙ rw (le-ltb (x % 2 ^ 32) (2 ^ 31) b)
+    ap (λ (z : ℤ). negsuc 0 -ℤ z) (toZ-pos w32 {n = y} (omega arith)) ∙ minus y ∙ rw (le-ltb (x % 2 ^ 32) (2 ^ 31) b)
 
 -- .. which is in range
 pub signed-fits : (x : ℕ) → SFits w32 (signed x)

@@ -1,4 +1,5 @@
-use Rattle.growth.proofs.SizeLaws.{less-fits, less-cast, less-size, more-cast, more-size}
+use Rattle.growth.proofs.SizeLaws.{less-size, more-size}
+use Rattle.promises.specs.Laws.Signs.{less-fits, less-cast, more-cast}
 use mathlib.Core.Path.{_∙_}
 use borrow.Author.Needs.{needs}
 use Rattle.growth.proofs.new_size.Statement.{statement}
@@ -8,7 +9,7 @@ sub-lowered : tie.Need-sub-lowered
 sub-lowered c = less-fits (c .before .args .count) (c .before .fits .count) (c .if1 .taken)
 
 cast-lowered : tie.Need-cast-lowered
-cast-lowered c = less-cast (c .before .args .count) (c .before .fits .count) (c .if1 .taken)
+cast-lowered c = less-cast (c .before .args .count) (c .before .fits .count) (c .if1 .taken) tt
 
 lowered-requires : tie.Need-lowered-requires
 lowered-requires c κs = search needs
@@ -17,7 +18,7 @@ returns : tie.Need-returns
 returns c = c .lowered .ensures ∙ less-size (c .before .before .args .count) (c .before .before .fits .count) (c .before .if1 .taken) (c .before .before .args .size)
 
 cast-raised : tie.Need-cast-raised
-cast-raised c = more-cast (c .before .args .count) (c .before .fits .count) (c .if1 .left)
+cast-raised c = more-cast (c .before .args .count) (c .before .fits .count) (c .if1 .left) tt
 
 raised-requires : tie.Need-raised-requires
 raised-requires c κs = search needs
