@@ -1,22 +1,67 @@
 -- Words all zero hold the fresh table; and numbers become words and come back.
-use Prim.Native.Nat.{ℕ, _+_, _-_, _%_, _<_}
+use Prim.Native.Nat.{ℕ, zero, suc, _+_, _-_, _%_, _<_}
 use native.Mathlib.Omega.{arith}
 use native.Mathlib.Nat.{mod-eq-of-lt}
-use mathlib.Core.Path.{_≡_, refl}
-use lib.ListN.{replicate}
+use mathlib.Core.Path.{_≡_, refl, ap, _∙_}
+use mathlib.Core.List.{List, [], _∷_}
+use lib.ListN.{getD, replicate}
 use borrow.Author.Tests.{ne-eqb}
-use Rattle.rules.specs.declared.Parent.the-variants.{Of}
+use Rattle.rules.specs.declared.Parent.the-variants.{Nobody, Of}
 use Rattle.rules.specs.declared.Member.the-variants.{In}
 use Rattle.rules.specs.Sizes.{slotCount, groupCount, hartCount, trapframe, trampoline, pageSize, nameSize}
-use Rattle.rules.specs.Model.{free, fresh, slot}
+use Rattle.rules.specs.Model.{free, noGroup, fresh, slot}
 use Rattle.promises.specs.Laws.Ring.{reads, lengthOf, queueOf}
-use Rattle.words.specs.Layout.{columnAt, cellAt, wordCount, column, cell}
-use Rattle.words.specs.Reading.{tabFrom, tab, bytesOf, rowOf, processOf, slotsOf, placesOf, ringOf, hartsOf, groupsOf, coreOf, booksOf, tableOf, parentOf, memberOf}
+use Rattle.words.specs.Layout.{slotColumns, sizeColumn, countColumn, headCell, tailCell, initCell, pidsCell, hartCell, columnAt, cellAt, column, cell}
+use Rattle.words.specs.Reading.{tabFrom, tab, turns, bytesOf, rowOf, processOf, slotsOf, ringOf, hartsOf, groupsOf, coreOf, booksOf, tableOf, parentOf, memberOf}
 
-pub new-law : tableOf (replicate wordCount 0) ≡ fresh
-unfolding tableOf coreOf booksOf slotsOf processOf rowOf ringOf placesOf hartsOf groupsOf tab tabFrom bytesOf column cell columnAt cellAt wordCount fresh free queueOf reads lengthOf slotCount groupCount hartCount trapframe trampoline pageSize nameSize
-new-law = refl
+-- ---- words all zero, however many they are
+tab-same : {A : Type 0} (n k : ℕ) (f : ℕ → A) (x : A) → ((i : ℕ) → f i ≡ x) → tabFrom n k f ≡ replicate n x
+unfolding tabFrom
+tab-same zero k f x h = refl
+tab-same (suc n) k f x h = ap (λ y. y ∷ tabFrom n (suc k) f) (h k) ∙ ap (λ l. x ∷ l) (tab-same n (suc k) f x h)
 
+zero-at : (n i : ℕ) → getD {A = ℕ} (replicate n 0) i 0 ≡ 0
+zero-at zero i = refl
+zero-at (suc n) zero = refl
+zero-at (suc n) (suc i) = zero-at n i
+
+module _ (n : ℕ) where
+  abbrev zeros : List ℕ
+  zeros = replicate n 0
+
+  column-zero : (f s : ℕ) → column zeros f s ≡ 0
+  unfolding column
+  column-zero f s = zero-at n (columnAt f s)
+
+  cell-zero : (k : ℕ) → cell zeros k ≡ 0
+  unfolding cell
+  cell-zero k = zero-at n (cellAt k)
+
+  row-free : (s : ℕ) → processOf (rowOf zeros s) ≡ free
+  unfolding rowOf tab processOf free tabFrom bytesOf trapframe trampoline pageSize nameSize
+  row-free s = ap processOf (tab-same slotColumns 0 (λ f. column zeros f s) 0 (λ f. column-zero f s))
+
+  slots-new : slotsOf zeros ≡ replicate slotCount free
+  unfolding slotsOf tab
+  slots-new = tab-same slotCount 0 _ free row-free
+
+  queue-new : queueOf slotCount turns (ringOf zeros) ≡ []
+  unfolding queueOf lengthOf reads ringOf
+  queue-new = rw (cell-zero headCell, cell-zero tailCell)
+
+  harts-new : hartsOf zeros ≡ replicate hartCount Nobody
+  unfolding hartsOf tab
+  harts-new = tab-same hartCount 0 _ Nobody (λ h. ap parentOf (cell-zero (hartCell h)))
+
+  groups-new : groupsOf zeros ≡ replicate groupCount noGroup
+  unfolding groupsOf tab
+  groups-new = tab-same groupCount 0 _ noGroup (λ g. rw (column-zero sizeColumn g, column-zero countColumn g))
+
+  pub new-law : tableOf zeros ≡ fresh
+  unfolding tableOf coreOf booksOf fresh
+  new-law = rw (slots-new, queue-new, harts-new, groups-new, cell-zero initCell, cell-zero pidsCell)
+
+-- ---- a word and back
 pub parent-back : (k : ℕ) → k < slotCount → parentOf (k + 1) ≡ Of (slot k)
 parent-back k b = let e : (k + 1 - 1) % slotCount ≡ k = rw (back k) (mod-eq-of-lt b) in rw (ne-eqb (k + 1) 0 (λ z. omega arith), e)
   where
