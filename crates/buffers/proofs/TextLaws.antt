@@ -1,11 +1,11 @@
 -- Text that goes into a buffer piece by piece.
-use Prim.Native.Nat.{ℕ, _+_, _-_, _≤_}
+use Prim.Native.Nat.{ℕ, suc, _+_, _-_, _≤_, _<_}
 use native.Mathlib.Omega.{arith}
 use native.Mathlib.Nat.{add-zero, add-assoc}
-use mathlib.Core.Path.{_≡_, sym, ap, _∙_}
-use mathlib.Core.List.{List, [], _++_, append-assoc, append-nil}
-use lib.ListN.{length, take, drop, length-append, length-drop, take-append-drop}
-use lib.Seq.{length-take-le, take-all, take-at, drop-at, drop-drop}
+use mathlib.Core.Path.{_≡_, refl, sym, ap, _∙_}
+use mathlib.Core.List.{List, [], _∷_, _++_, append-assoc, append-nil}
+use lib.ListN.{length, set, take, drop, length-append, length-drop, take-append-drop}
+use lib.Seq.{set-split, append-snoc, length-take-le, take-all, take-at, drop-at, drop-drop}
 use Rattle.buffers.specs.Text.{put, Wrote}
 
 module _ (b : List ℕ) (k : ℕ) (p : List ℕ) (fits : k + length p ≤ length b) where
@@ -32,36 +32,51 @@ put-more b k p q fits =
     ∙ ap (λ (n : ℕ). drop n b) (add-assoc k (length p) (length q) ∙ ap (λ (n : ℕ). k + n) (sym (length-append p q))))
     ∙ ap (λ (l : List ℕ). l ++ drop (k + length (p ++ q)) b) (append-assoc (take k b) p q)
 
-pub wrote-none : (b : List ℕ) (k : ℕ) → Wrote b k [] b k
-wrote-none b k = record { buffer = sym (put-none b k); place = sym (add-zero k) }
+put-length : (b : List ℕ) (k : ℕ) (p : List ℕ) → k + length p ≤ length b → length (put b k p) ≡ length b
+unfolding put
+put-length b k p fits = length-append (take k b ++ p) (drop (k + length p) b) ∙ omega (arith, front-length b k p fits, length-drop (k + length p) b)
+
+module _ {b p a : List ℕ} {k m : ℕ} (u : Wrote b k p a m) where
+  pub wrote-long : length a ≡ length b
+  wrote-long = ap length (u .buffer) ∙ put-length b k p (u .fits)
+
+  pub wrote-more : {q d : List ℕ} {n : ℕ} → Wrote a m q d n → Wrote b k (p ++ q) d n
+  wrote-more {q} v = record {
+    fits = omega (arith, v .fits, u .place, wrote-long, length-append p q);
+    buffer = v .buffer ∙ rw (u .buffer, u .place) (put-more b k p q (u .fits));
+    place = v .place ∙ rw (u .place, length-append) (add-assoc k (length p) (length q));
+  }
+
+pub wrote-none : (b : List ℕ) (k : ℕ) → k ≤ length b → Wrote b k [] b k
+wrote-none b k h = record { fits = rw add-zero h; buffer = sym (put-none b k); place = sym (add-zero k) }
+
+-- what went in at the front
+pub wrote-front : {b p a : List ℕ} {m : ℕ} → Wrote b 0 p a m → take m a ≡ p
+unfolding put
+wrote-front {b} {p} u = rw (u .buffer, u .place) (take-at p (drop (0 + length p) b) (0 + length p) (omega arith))
+
+-- a store
+pub wrote-one : (b : List ℕ) (k x : ℕ) → k < length b → Wrote b k (x ∷ []) (set b k x) (k + 1)
+unfolding put
+wrote-one b k x h = let z : k + 1 ≡ suc k = omega arith in record {
+  fits = omega arith;
+  buffer = set-split b k x h ∙ sym (append-snoc (take k b) x (drop (suc k) b)) ∙ ap (λ (n : ℕ). take k b ++ (x ∷ []) ++ drop n b) (sym z);
+  place = refl;
+}
 
 -- the part of an array from k on
 pub part-from : (l : List ℕ) (k n : ℕ) → length l ≡ n → take (n - k) (drop k l) ≡ drop k l
 part-from l k n e = take-all (n - k) (drop k l) (omega (arith, length-drop k l))
 
--- a piece and the next
+-- ---- room for the pieces that follow
 fits-first : (k : ℕ) (p q : List ℕ) {n : ℕ} → k + length (p ++ q) ≤ n → k + length p ≤ n
 fits-first k p q h = omega (arith, length-append p q)
 
-pub fits-next : {b p a : List ℕ} {k m : ℕ} (q : List ℕ) → k + length (p ++ q) ≤ length b → Wrote b k p a m → length a ≡ length b → m + length q ≤ length a
-fits-next {b} {p} q h u e = omega (arith, u .place, length-append p q)
+pub fits-next : {b p a : List ℕ} {k m : ℕ} (q : List ℕ) → k + length (p ++ q) ≤ length b → Wrote b k p a m → m + length q ≤ length a
+fits-next {b} {p} q h u = omega (arith, u .place, wrote-long u, length-append p q)
 
-pub wrote-more : {b p a q d : List ℕ} {k m n : ℕ} → k + length (p ++ q) ≤ length b → Wrote b k p a m → Wrote a m q d n → Wrote b k (p ++ q) d n
-wrote-more {b} {p} {a} {q} {d} {k} {m} {n} fits u v = record {
-  buffer = v .buffer ∙ rw (u .buffer, u .place) (put-more b k p q (fits-first k p q fits));
-  place = v .place ∙ rw (u .place, length-append) (add-assoc k (length p) (length q));
-}
-
--- three pieces in a row
 pub three-first : (k : ℕ) (p q r : List ℕ) {n : ℕ} → k + length (p ++ q ++ r) ≤ n → k + length p ≤ n
 three-first k p q r fits = fits-first k p q (fits-first k (p ++ q) r fits)
 
-module _ {b : List ℕ} {k : ℕ} (p q r : List ℕ) (fits : k + length (p ++ q ++ r) ≤ length b) where
-  pub three-next : {a : List ℕ} {m : ℕ} → Wrote b k p a m → length a ≡ length b → m + length q ≤ length a
-  three-next u e = fits-next q (fits-first k (p ++ q) r fits) u e
-
-  pub three-last : {a d : List ℕ} {m n : ℕ} → Wrote b k p a m → Wrote a m q d n → length a ≡ length b → length d ≡ length a → n + length r ≤ length d
-  three-last u v e f = fits-next r fits (wrote-more (fits-first k (p ++ q) r fits) u v) (f ∙ e)
-
-  pub three-wrote : {a d e : List ℕ} {m n o : ℕ} → Wrote b k p a m → Wrote a m q d n → Wrote d n r e o → Wrote b k (p ++ q ++ r) e o
-  three-wrote u v w = wrote-more fits (wrote-more (fits-first k (p ++ q) r fits) u v) w
+pub three-next : {b a : List ℕ} {k m : ℕ} (p q r : List ℕ) → k + length (p ++ q ++ r) ≤ length b → Wrote b k p a m → m + length q ≤ length a
+three-next {k = k} p q r fits u = fits-next q (fits-first k (p ++ q) r fits) u

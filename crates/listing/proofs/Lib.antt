@@ -1,4 +1,4 @@
 mod DigitLaws
 mod NameLaws
-mod LineLaws
-mod RoomLaws
+pub mod LineLaws
+pub mod RoomLaws

@@ -1,8 +1,9 @@
 // A number in decimal.
 ghost use mathlib.Core.Path.{_≡_};
-ghost use Prim.Native.Nat.{_<_};
-ghost use lib.ListN.{drop};
+ghost use Prim.Native.Nat.{_+_, _<_, _≤_};
+ghost use lib.ListN.{length, drop};
 ghost use Rattle.rules.specs.Listing.{digits};
+ghost use Rattle.buffers.specs.Text.{Wrote};
 
 // The digits stand at the end, from `from` on.
 pub struct Digits {
@@ -23,4 +24,14 @@ pub fn decimal(n: u64) -> Digits
     }
     bytes[from] = (48 + rest) as u8;
     Digits { bytes, from }
+}
+
+pub fn write(buffer: &mut [u8], at: usize, n: u64) -> usize
+    requires { ⌜ at + length (digits n) ≤ length (now buffer) ⌝ }
+    ensures { λ r. ⌜ Wrote (now (buffer .entry)) at (digits n) (now (buffer .exit)) r ⌝ }
+{
+    let d = decimal(n);
+    let bytes = d.bytes;
+    let from = d.from;
+    buffers::write(buffer, at, &bytes[from..])
 }

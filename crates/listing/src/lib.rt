@@ -1,17 +1,18 @@
 // The listing of the table: its length, and its text in a lent buffer.
 ghost use mathlib.Core.Path.{_≡_};
-ghost use Prim.Native.Nat.{_≤_};
+ghost use Prim.Native.Nat.{_+_, _≤_};
 ghost use lib.ListN.{length};
 ghost use Rattle.rules.specs.Listing.{listing, roomFor, listedPart, listedBuffer};
 ghost use Rattle.words.specs.Reading.{tableOf};
-ghost use Rattle.buffers.specs.Text.{put};
+ghost use Rattle.buffers.specs.Text.{Wrote};
 use rules::Refusal;
 use rules::Room;
 use words::Table;
 
 pub mod digits; // a number in decimal
+pub mod state; // a state's name
+pub mod name; // a slot's name
 mod line; // a slot's line
-mod name; // a slot's name
 
 fn text_len(t: &[u64; Table::WORDS]) -> usize
     ensures { λ r. ⌜ r ≡ length (listing (tableOf (now (t .entry)))) ⌝ }
@@ -23,14 +24,16 @@ fn text_len(t: &[u64; Table::WORDS]) -> usize
     n
 }
 
-fn write_all(t: &[u64; Table::WORDS], buffer: &mut [u8])
-    requires { ⌜ length (listing (tableOf (now t))) ≤ length (now buffer) ⌝ }
-    ensures { λ _. ⌜ now (buffer .exit) ≡ put (now (buffer .entry)) 0 (listing (tableOf (now (t .entry)))) ⌝ }
+// From a place in the buffer on; returns the place after it.
+pub fn write_listing(t: &[u64; Table::WORDS], buffer: &mut [u8], at: usize) -> usize
+    requires { ⌜ at + length (listing (tableOf (now t))) ≤ length (now buffer) ⌝ }
+    ensures { λ r. ⌜ Wrote (now (buffer .entry)) at (listing (tableOf (now (t .entry)))) (now (buffer .exit)) r ⌝ }
 {
-    let mut at = 0;
+    let mut on = at;
     for s in 0..Table::SLOTS {
-        at = line::write_line(t, s, buffer, at);
+        on = line::write_line(t, s, buffer, on);
     }
+    on
 }
 
 pub fn room_for(t: &[u64; Table::WORDS], room: usize) -> Room
@@ -50,7 +53,7 @@ pub fn dump_into(t: &[u64; Table::WORDS], buffer: &mut [u8]) -> Room
 {
     match room_for(t, buffer.len()) {
         Room::Fits(n) => {
-            write_all(t, buffer);
+            write_listing(t, buffer, 0);
             Room::Fits(n)
         }
         Room::Short(why) => Room::Short(why),

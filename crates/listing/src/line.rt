@@ -10,6 +10,7 @@ ghost use Rattle.buffers.specs.Text.{Wrote};
 ghost use Rattle.listing.specs.Lines.{pidText, stateLabelled, nameText, lineAt};
 use crate::digits;
 use crate::name;
+use crate::state;
 use rules::ProcState;
 use words::Table;
 use words::slot;
@@ -48,25 +49,16 @@ fn write_pid(buffer: &mut [u8], at: usize, n: u64) -> usize
     requires { ⌜ at + length (pidText n) ≤ length (now buffer) ⌝ }
     ensures { λ r. ⌜ Wrote (now (buffer .entry)) at (pidText n) (now (buffer .exit)) r ⌝ }
 {
-    let d = digits::decimal(n);
-    let bytes = d.bytes;
-    let from = d.from;
     let on = buffers::write(buffer, at, b"pid: ");
-    buffers::write(buffer, on, &bytes[from..])
+    digits::write(buffer, on, n)
 }
 
 fn write_state(buffer: &mut [u8], at: usize, s: ProcState) -> usize
     requires { ⌜ at + length (stateLabelled s) ≤ length (now buffer) ⌝ }
     ensures { λ r. ⌜ Wrote (now (buffer .entry)) at (stateLabelled s) (now (buffer .exit)) r ⌝ }
 {
-    match s {
-        ProcState::UNUSED => buffers::write(buffer, at, b" state: UNUSED"),
-        ProcState::ALLOCATED => buffers::write(buffer, at, b" state: ALLOCATED"),
-        ProcState::RUNNABLE => buffers::write(buffer, at, b" state: RUNNABLE"),
-        ProcState::RUNNING => buffers::write(buffer, at, b" state: RUNNING"),
-        ProcState::SLEEPING => buffers::write(buffer, at, b" state: SLEEPING"),
-        ProcState::ZOMBIE => buffers::write(buffer, at, b" state: ZOMBIE"),
-    }
+    let on = buffers::write(buffer, at, b" state: ");
+    state::write(buffer, on, s)
 }
 
 fn write_name(buffer: &mut [u8], at: usize, a: u64, b: u64) -> usize

@@ -23,7 +23,7 @@ fn show(b: u8) -> u8
     b'?'
 }
 
-fn unpack(a: u64, b: u64) -> [u8; 16]
+pub fn unpack(a: u64, b: u64) -> [u8; 16]
     ensures { λ r. ⌜ r ≡ bytesOf a ++ bytesOf b ⌝ }
 {
     [

@@ -15,7 +15,7 @@ use Rattle.rules.specs.Listing.{bytes, stateText, upToZero, lineOf, linesOf, li
 use Rattle.promises.specs.Laws.Digits.{digits-length}
 
 -- ---- the text
-state-short : (s : ProcState) → length (stateText s) ≤ 9
+pub state-short : (s : ProcState) → length (stateText s) ≤ 9
 unfolding stateText bytes
 state-short UNUSED = omega arith
 state-short ALLOCATED = omega arith

@@ -96,7 +96,7 @@ module _ (text l b₀ : List ℕ) (t₀ : Table) (most : ℕ) where
 
   pub begun : Sound t₀ → Midway t₀ b₀ 0 0 0
   unfolding callsIn codes rules.run rules.runBy
-  begun w = record { left = omega arith; count = refl; table = refl; answers = wrote-none b₀ 0; sound = w; long = refl; place = refl; within = omega arith }
+  begun w = record { left = omega arith; count = refl; table = refl; answers = wrote-none b₀ 0 (omega arith); sound = w; long = refl; place = refl; within = omega arith }
 
   module _ {t : Table} {b : List ℕ} {n at to : ℕ} (m : Midway t b n at to) where
     abbrev said : List Answer
@@ -128,7 +128,7 @@ module _ (text l b₀ : List ℕ) (t₀ : Table) (most : ℕ) where
         left = h;
         count = ap suc (m .count) ∙ sym (ap length grown ∙ length-append (callsIn n text l) (callOf text c ∷ []) ∙ omega arith);
         table = did .table ∙ ap (λ (x : Table). rules.step x (callOf text c) .table) (m .table) ∙ sym (run-table t₀ (callsIn n text l) (callOf text c)) ∙ ap (λ (cs : List rules.Call). rules.run t₀ cs .table) (sym grown);
-        answers = subst (λ (k : List ℕ). Wrote b₀ 0 k d (to + answerWords)) (sym (ap codes (told did) ∙ codes-more said a)) (wrote-more (omega (arith, length-append (codes said) (coded a), coded-length a, said-length)) (m .answers) (record { buffer = f; place = ap (λ (k : ℕ). to + k) (sym (coded-length a)) }));
+        answers = subst (λ (k : List ℕ). Wrote b₀ 0 k d (to + answerWords)) (sym (ap codes (told did) ∙ codes-more said a)) (wrote-more (m .answers) (record { fits = omega (arith, room h k, coded-length a); buffer = f; place = ap (λ (k : ℕ). to + k) (sym (coded-length a)) }));
         sound = did .sound;
         long = g ∙ m .long;
         place = omega (arith, m .place);

@@ -51,7 +51,7 @@ unfolding put
 returns c =
     let p = c .before .before .args .piece .now in
     let e : c .before .loop .j ≡ length p = omega arith in
-    record { buffer = rw (c .before .loop .inv .2, e, take-length p); place = omega arith }
+    record { fits = c .before .before .pre; buffer = rw (c .before .loop .inv .2, e, take-length p); place = omega arith }
 
 pub write-spec : {M : Type 1} → statement M
 write-spec =

@@ -1,4 +1,5 @@
 use mathlib.Core.Path.{_≡_, sym, _∙_}
+use native.Mathlib.Nat.{zero-add}
 use lib.ListN.{length}
 use borrow.Author.Needs.{needs}
 use Rattle.rules.specs.declared.Room.the-variants.{Fits}
@@ -18,8 +19,8 @@ room-for-requires c κs = search needs
 enum-known-n : tie.Need-enum-known-n
 enum-known-n c = search needs
 
-write-all-requires : tie.Need-write-all-requires
-write-all-requires c κs = room-enough _ _ (fits-told _ _ _ (answer (c .before .before)) .0)
+write-listing-requires : tie.Need-write-listing-requires
+write-listing-requires c κs = rw zero-add (room-enough _ _ (fits-told _ _ _ (answer (c .before .before)) .0))
 
 enum-known-why : tie.Need-enum-known-why
 enum-known-why c = search needs
@@ -32,7 +33,7 @@ returns c =
     let d = c .before .before .before .before .before in
     let a = d .before .before .before .before .args in
     let e = fits-told _ _ _ (answer d) .0 in
-    (answer d, c .before .before .write-all .ensures ∙ fit-buffer (tableOf (a .t .now)) (a .buffer .now) e)
+    (answer d, c .before .before .write-listing .ensures .buffer ∙ fit-buffer (tableOf (a .t .now)) (a .buffer .now) e)
 
 returns-2 : tie.Need-returns-2
 returns-2 c =
@@ -45,7 +46,7 @@ dump-into-spec =
     (tie.spec
     room-for-requires
     enum-known-n
-    write-all-requires
+    write-listing-requires
     enum-known-why
     same-length
     returns

@@ -1,11 +1,12 @@
 use Prim.Native.Nat.{ℕ, _+_, _≤_}
+use native.Mathlib.Omega.{arith}
 use mathlib.Core.Path.{_≡_}
 use mathlib.Core.List.{List, _++_}
 use lib.ListN.{length}
 use borrow.Author.Needs.{needs}
 use Rattle.words.specs.Reading.{tableOf, bytesOf}
 use Rattle.listing.specs.Lines.{pidText, stateLabelled, nameText, lineAt}
-use Rattle.buffers.proofs.TextLaws.{wrote-none, three-first, three-next, three-last, three-wrote}
+use Rattle.buffers.proofs.TextLaws.{wrote-none, wrote-more, fits-next, three-first, three-next}
 use Rattle.listing.proofs.LineLaws.{used, line-none, line-here}
 use Rattle.listing.proofs.line.write_line.Statement.{statement}
 use Rattle.listing.proofs.line.write_line.Tie as tie
@@ -37,7 +38,7 @@ returns : tie.Need-returns
 returns c =
     let a = c .before .before .before .before .args in
     let m = c .before .before .meta-at in
-    rw (line-none (tableOf (a .t .now)) (a .s) (m .result) (m .ensures) (c .enum-told .given .1)) (wrote-none (a .buffer .now) (a .at))
+    rw (line-none (tableOf (a .t .now)) (a .s) (m .result) (m .ensures) (c .enum-told .given .1)) (wrote-none (a .buffer .now) (a .at) (omega (arith, c .before .before .before .before .pre .1)))
 
 start-at-requires : tie.Need-start-at-requires
 start-at-requires c κs = search needs
@@ -49,14 +50,14 @@ write-state-requires : tie.Need-write-state-requires
 write-state-requires c κs =
     let d = c .before .before .before .before .before in
     let u = c .before .before .before .write-pid in
-    three-next (pidOf d) (stateOf d) (nameOf d) (room d) (u .ensures) (u .kept .0)
+    three-next (pidOf d) (stateOf d) (nameOf d) (room d) (u .ensures)
 
 write-name-requires : tie.Need-write-name-requires
 write-name-requires c κs =
     let d = c .before .before .before .before .before .before .before .before .before in
     let u = c .before .before .before .before .before .before .before .write-pid in
     let v = c .before .before .before .write-state in
-    three-last (pidOf d) (stateOf d) (nameOf d) (room d) (u .ensures) (v .ensures) (u .kept .0) (v .kept .0)
+    fits-next (nameOf d) (room d) (wrote-more (u .ensures) (v .ensures))
 
 same-length : tie.Need-same-length
 same-length c = search needs
@@ -64,7 +65,7 @@ same-length c = search needs
 returns-2 : tie.Need-returns-2
 returns-2 c =
     let d = c .before .before .before .before .before .before .before .before .before .before .before .before in
-    rw (pieces d) (three-wrote (pidOf d) (stateOf d) (nameOf d) (room d) (c .before .before .before .before .before .before .before .before .before .before .write-pid .ensures) (c .before .before .before .before .before .before .write-state .ensures) (c .before .before .write-name .ensures))
+    rw (pieces d) (wrote-more (wrote-more (c .before .before .before .before .before .before .before .before .before .before .write-pid .ensures) (c .before .before .before .before .before .before .write-state .ensures)) (c .before .before .write-name .ensures))
 
 pub write-line-spec : {M : Type 1} → statement M
 write-line-spec =

@@ -8,7 +8,7 @@ use borrow.Author.Needs.{needs}
 use Rattle.rules.specs.Listing.{bytes}
 use Rattle.words.specs.Reading.{bytesOf}
 use Rattle.listing.specs.Lines.{nameShown, nameText}
-use Rattle.buffers.proofs.TextLaws.{three-next, three-last, three-wrote}
+use Rattle.buffers.proofs.TextLaws.{fits-next, three-next, wrote-more}
 use Rattle.listing.proofs.line.write_name.Statement.{statement}
 use Rattle.listing.proofs.line.write_name.Tie as tie
 
@@ -42,7 +42,7 @@ unfolding nameText bytes
 write-requires-2 c κs =
     let d = c .before .before .before .before .before .before .before .before in
     let w = c .before .before .before .before .write in
-    rw (d .shown-name .ensures .0) (three-next (bytes " name: ") (textOf d) (bytes "\n") (d .before .before .pre) (w .ensures) (w .kept .0))
+    rw (d .shown-name .ensures .0) (three-next (bytes " name: ") (textOf d) (bytes "\n") (d .before .before .pre) (w .ensures))
 
 slice-aggregate-write-3 : tie.Need-slice-aggregate-write-3
 slice-aggregate-write-3 c = search needs
@@ -53,7 +53,7 @@ write-requires-3 c κs =
     let d = c .before .before .before .before .before .before .before .before .before .before .before .before .before in
     let w = c .before .before .before .before .before .before .before .before .before .write in
     let v = c .before .before .before .before .write2 in
-    three-last (bytes " name: ") (textOf d) (bytes "\n") (d .before .before .pre) (w .ensures) (rw (d .shown-name .ensures .0) at (v .ensures)) (w .kept .0) (v .kept .0)
+    fits-next (bytes "\n") (d .before .before .pre) (wrote-more (w .ensures) (rw (d .shown-name .ensures .0) at (v .ensures)))
 
 same-length : tie.Need-same-length
 same-length c = search needs
@@ -64,7 +64,7 @@ returns c =
     let d = c .before .before .before .before .before .before .before .before .before .before .before .before .before .before .before .before in
     let w = c .before .before .before .before .before .before .before .before .before .before .before .before .write in
     let v = c .before .before .before .before .before .before .before .write2 in
-    three-wrote (bytes " name: ") (textOf d) (bytes "\n") (d .before .before .pre) (w .ensures) (rw (d .shown-name .ensures .0) at (v .ensures)) (c .before .before .write3 .ensures)
+    wrote-more (wrote-more (w .ensures) (rw (d .shown-name .ensures .0) at (v .ensures))) (c .before .before .write3 .ensures)
 
 pub write-name-spec : {M : Type 1} → statement M
 write-name-spec =

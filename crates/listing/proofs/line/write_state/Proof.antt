@@ -1,142 +1,31 @@
+use native.Mathlib.Omega.{arith}
 use borrow.Author.Needs.{needs}
 use Rattle.rules.specs.Listing.{bytes, stateText}
 use Rattle.listing.specs.Lines.{stateLabelled}
+use Rattle.buffers.proofs.TextLaws.{fits-next, wrote-more}
 use Rattle.listing.proofs.line.write_state.Statement.{statement}
 use Rattle.listing.proofs.line.write_state.Tie as tie
-
-enum-told : tie.Need-enum-told
-enum-told c = search needs
 
 slice-aggregate-write : tie.Need-slice-aggregate-write
 slice-aggregate-write c = search needs
 
 write-requires : tie.Need-write-requires
-unfolding stateLabelled stateText bytes
-write-requires c κs = rw (c .before .before .enum-told .given .1) at (c .before .before .before .before .before .pre)
-
-enum-told-2 : tie.Need-enum-told-2
-enum-told-2 c = search needs
-
-slice-aggregate-write-2 : tie.Need-slice-aggregate-write-2
-slice-aggregate-write-2 c = search needs
+unfolding stateLabelled bytes
+write-requires c κs = omega (arith, c .before .before .before .pre)
 
 write-requires-2 : tie.Need-write-requires-2
-unfolding stateLabelled stateText bytes
-write-requires-2 c κs = rw (c .before .before .enum-told2 .given .1) at (c .before .before .before .before .before .pre)
-
-enum-told-3 : tie.Need-enum-told-3
-enum-told-3 c = search needs
-
-slice-aggregate-write-3 : tie.Need-slice-aggregate-write-3
-slice-aggregate-write-3 c = search needs
-
-write-requires-3 : tie.Need-write-requires-3
-unfolding stateLabelled stateText bytes
-write-requires-3 c κs = rw (c .before .before .enum-told3 .given .1) at (c .before .before .before .before .before .pre)
-
-enum-told-4 : tie.Need-enum-told-4
-enum-told-4 c = search needs
-
-slice-aggregate-write-4 : tie.Need-slice-aggregate-write-4
-slice-aggregate-write-4 c = search needs
-
-write-requires-4 : tie.Need-write-requires-4
-unfolding stateLabelled stateText bytes
-write-requires-4 c κs = rw (c .before .before .enum-told4 .given .1) at (c .before .before .before .before .before .pre)
-
-enum-told-5 : tie.Need-enum-told-5
-enum-told-5 c = search needs
-
-slice-aggregate-write-5 : tie.Need-slice-aggregate-write-5
-slice-aggregate-write-5 c = search needs
-
-write-requires-5 : tie.Need-write-requires-5
-unfolding stateLabelled stateText bytes
-write-requires-5 c κs = rw (c .before .before .enum-told5 .given .1) at (c .before .before .before .before .before .pre)
-
-enum-told-6 : tie.Need-enum-told-6
-enum-told-6 c = search needs
-
-slice-aggregate-write-6 : tie.Need-slice-aggregate-write-6
-slice-aggregate-write-6 c = search needs
-
-write-requires-6 : tie.Need-write-requires-6
-unfolding stateLabelled stateText bytes
-write-requires-6 c κs = rw (c .before .before .enum-told6 .given .1) at (c .before .before .before .before .before .pre)
+unfolding stateLabelled bytes
+write-requires-2 c κs =
+    let d = c .before .before .before .before .before .before .before in
+    fits-next (stateText (d .args .s)) (d .pre) (c .before .before .before .write .ensures)
 
 same-length : tie.Need-same-length
 same-length c = search needs
 
 returns : tie.Need-returns
-unfolding stateLabelled stateText bytes
-returns c = rw (c .before .before .before .before .before .enum-told .given .1) (c .before .before .write .ensures)
-
-same-length-2 : tie.Need-same-length-2
-same-length-2 c = search needs
-
-returns-2 : tie.Need-returns-2
-unfolding stateLabelled stateText bytes
-returns-2 c = rw (c .before .before .before .before .before .enum-told2 .given .1) (c .before .before .write2 .ensures)
-
-same-length-3 : tie.Need-same-length-3
-same-length-3 c = search needs
-
-returns-3 : tie.Need-returns-3
-unfolding stateLabelled stateText bytes
-returns-3 c = rw (c .before .before .before .before .before .enum-told3 .given .1) (c .before .before .write3 .ensures)
-
-same-length-4 : tie.Need-same-length-4
-same-length-4 c = search needs
-
-returns-4 : tie.Need-returns-4
-unfolding stateLabelled stateText bytes
-returns-4 c = rw (c .before .before .before .before .before .enum-told4 .given .1) (c .before .before .write4 .ensures)
-
-same-length-5 : tie.Need-same-length-5
-same-length-5 c = search needs
-
-returns-5 : tie.Need-returns-5
-unfolding stateLabelled stateText bytes
-returns-5 c = rw (c .before .before .before .before .before .enum-told5 .given .1) (c .before .before .write5 .ensures)
-
-same-length-6 : tie.Need-same-length-6
-same-length-6 c = search needs
-
-returns-6 : tie.Need-returns-6
-unfolding stateLabelled stateText bytes
-returns-6 c = rw (c .before .before .before .before .before .enum-told6 .given .1) (c .before .before .write6 .ensures)
+unfolding stateLabelled bytes
+returns c = wrote-more (c .before .before .before .before .before .before .write .ensures) (c .before .before .write2 .ensures)
 
 pub write-state-spec : {M : Type 1} → statement M
 write-state-spec =
-    tie.close
-    (tie.spec
-    enum-told
-    slice-aggregate-write
-    write-requires
-    enum-told-2
-    slice-aggregate-write-2
-    write-requires-2
-    enum-told-3
-    slice-aggregate-write-3
-    write-requires-3
-    enum-told-4
-    slice-aggregate-write-4
-    write-requires-4
-    enum-told-5
-    slice-aggregate-write-5
-    write-requires-5
-    enum-told-6
-    slice-aggregate-write-6
-    write-requires-6
-    same-length
-    returns
-    same-length-2
-    returns-2
-    same-length-3
-    returns-3
-    same-length-4
-    returns-4
-    same-length-5
-    returns-5
-    same-length-6
-    returns-6)
+    tie.close (tie.spec slice-aggregate-write write-requires write-requires-2 same-length returns)

@@ -11,14 +11,14 @@ use Rattle.buffers.specs.Text.{Wrote}
 use Rattle.listing.specs.Lines.{lineAt, linesBelow}
 use Rattle.buffers.proofs.TextLaws.{wrote-none, fits-next, wrote-more}
 use Rattle.listing.proofs.LineLaws.{below-none, below-more, below-all, below-fits}
-use Rattle.listing.proofs.write_all.Statement.{statement}
-use Rattle.listing.proofs.write_all.Tie as tie
+use Rattle.listing.proofs.write_listing.Statement.{statement}
+use Rattle.listing.proofs.write_listing.Tie as tie
 
 abbrev Inv-loop : tie.InvT-loop
-Inv-loop t buffer₀ at₀ s₀ buffer at s = (s ≤ slotCount) × (length buffer ≡ length buffer₀) × Wrote buffer₀ 0 (linesBelow (tableOf t) s) buffer at
+Inv-loop t buffer₀ at on₀ s₀ buffer on s = (s ≤ slotCount) × (length buffer ≡ length buffer₀) × Wrote buffer₀ at (linesBelow (tableOf t) s) buffer on
 
 abbrev μ-loop : tie.MeasureT-loop
-μ-loop t buffer₀ at₀ s₀ buffer at s = slotCount - s
+μ-loop t buffer₀ at on₀ s₀ buffer on s = slotCount - s
 
 more : (c : tie.In-loop Inv-loop μ-loop) → c .before .loop .s < slotCount
 unfolding slotCount
@@ -28,14 +28,14 @@ abbrev table : tie.In-loop Inv-loop μ-loop → Table
 table c = tableOf (c .before .before .before .args .t .now)
 
 room : (c : tie.In-loop Inv-loop μ-loop)
-    → 0 + length (linesBelow (table c) (c .before .loop .s) ++ lineAt (table c) (c .before .loop .s)) ≤ length (c .before .before .before .args .buffer .now)
+    → c .before .before .before .args .at + length (linesBelow (table c) (c .before .loop .s) ++ lineAt (table c) (c .before .loop .s)) ≤ length (c .before .before .before .args .buffer .now)
 room c = omega (arith, below-fits (table c) (c .before .loop .s) (omega (arith, more c, slots-count (c .before .before .before .args .t .now))), c .before .before .before .pre)
 
 loop-holds : tie.Need-loop-holds Inv-loop μ-loop
-loop-holds c = (omega arith, refl, rw below-none (wrote-none (c .before .args .buffer .now) 0))
+loop-holds c = (omega arith, refl, rw below-none (wrote-none (c .before .args .buffer .now) (c .before .args .at) (omega (arith, c .before .pre))))
 
 write-line-requires : tie.Need-write-line-requires Inv-loop μ-loop
-write-line-requires c κs = (more (c .before), fits-next _ (room (c .before)) (c .before .before .loop .inv .2) (c .before .before .loop .inv .1))
+write-line-requires c κs = (more (c .before), fits-next _ (room (c .before)) (c .before .before .loop .inv .2))
 
 add-s : tie.Need-add-s Inv-loop μ-loop
 unfolding slotCount
@@ -53,7 +53,7 @@ loop-again c =
     let i = d .before .loop in (
       omega (arith, more d),
       w .kept .1 .1 .0 ∙ i .inv .1,
-      rw (below-more (tableOf t) (i .s) (omega (arith, more d, slots-count t))) (wrote-more (room d) (i .inv .2) (w .ensures)),
+      rw (below-more (tableOf t) (i .s) (omega (arith, more d, slots-count t))) (wrote-more (i .inv .2) (w .ensures)),
     )
 
 same-length : tie.Need-same-length Inv-loop μ-loop
@@ -64,10 +64,10 @@ returns c =
     let t = c .before .before .before .args .t .now in
     let i = c .before .loop in
     let h : slotCount ≤ i .s = unfold slotCount in omega arith in
-    rw (← below-all (tableOf t) (i .s) (omega (arith, slots-count t))) (i .inv .2 .buffer)
+    rw (← below-all (tableOf t) (i .s) (omega (arith, slots-count t))) (i .inv .2)
 
-pub write-all-spec : {M : Type 1} → statement M
-write-all-spec =
+pub write-listing-spec : {M : Type 1} → statement M
+write-listing-spec =
     tie.close
     (tie.spec
     Inv-loop

@@ -1,0 +1,5 @@
+mod WordLaws
+mod ValueLaws
+mod GrammarLaws
+mod ArgumentLaws
+mod MeaningLaws

@@ -1,0 +1,116 @@
+use Rattle.buffers.proofs.TextLaws.{wrote-long}
+use mathlib.Core.Path.{sym, _∙_}
+use Rattle.lines.proofs.GrammarLaws.{kinds-few}
+use Rattle.lines.proofs.ArgumentLaws.{Midway, begun, one-more, one-not, next, too-many, all-there}
+use borrow.Author.Needs.{needs}
+use native.Mathlib.Omega.{arith}
+use Prim.Native.Nat.{_-_}
+use lib.ListN.{length}
+use Rattle.lines.specs.Grammar.{kindsOf}
+use Rattle.lines.proofs.arguments.read.Statement.{statement}
+use Rattle.lines.proofs.arguments.read.Tie as tie
+
+abbrev Inv-loop : tie.InvT-loop
+Inv-loop line at k w₀ at₀ i₀ kind₀ w at' i kind = Midway k line at w₀ w at' i kind
+
+abbrev μ-loop : tie.MeasureT-loop
+μ-loop line at k w₀ at₀ i₀ kind₀ w at' i kind = length (kindsOf k) - i
+
+kind-requires : tie.Need-kind-requires Inv-loop μ-loop
+kind-requires c κs = c .before .before .pre .1
+
+loop-holds : tie.Need-loop-holds Inv-loop μ-loop
+loop-holds c = begun (c .before .before .before .args .k) (c .before .before .before .args .line .now) (c .before .before .before .args .at) (c .before .before .before .args .w .now) (c .before .before .before .pre .0) (c .before .before .before .pre .2) (c .kind .ensures)
+
+next-requires : tie.Need-next-requires Inv-loop μ-loop
+next-requires c κs = c .before .loop .inv .within
+
+sub-argument : tie.Need-sub-argument Inv-loop μ-loop
+sub-argument c = c .next .ensures .order
+
+part-argument-start : tie.Need-part-argument-start Inv-loop μ-loop
+part-argument-start c = search (needs, c .next .ensures .order)
+
+part-argument-end : tie.Need-part-argument-end Inv-loop μ-loop
+part-argument-end c = search (needs, c .next .ensures .ends)
+
+argument-requires : tie.Need-argument-requires Inv-loop μ-loop
+argument-requires c κs = search needs
+
+enum-known-v : tie.Need-enum-known-v Inv-loop μ-loop
+enum-known-v c = search needs
+
+add-w : tie.Need-add-w Inv-loop μ-loop
+add-w c = omega (arith, one-more _ _ _ _ (c .before .before .before .before .before .before .before .loop .inv) (c .before .before .before .before .before .before .loop-test .taken), kinds-few (c .before .before .before .before .before .before .before .before .before .before .before .args .k) (c .before .before .before .before .before .before .before .before .before .before .before .pre .1))
+
+mul-w : tie.Need-mul-w Inv-loop μ-loop
+mul-w c = omega (arith, one-more _ _ _ _ (c .before .before .before .before .before .before .before .loop .inv) (c .before .before .before .before .before .before .loop-test .taken), kinds-few (c .before .before .before .before .before .before .before .before .before .before .before .args .k) (c .before .before .before .before .before .before .before .before .before .before .before .pre .1))
+
+slice-write-w : tie.Need-slice-write-w Inv-loop μ-loop
+slice-write-w c = omega (arith, one-more _ _ _ _ (c .before .before .before .before .before .before .before .loop .inv) (c .before .before .before .before .before .before .loop-test .taken), kinds-few (c .before .before .before .before .before .before .before .before .before .before .before .args .k) (c .before .before .before .before .before .before .before .before .before .before .before .pre .1), wrote-long (c .before .before .before .before .before .before .before .loop .inv .wrote), c .before .before .before .before .before .before .before .before .before .before .before .pre .2)
+
+enum-known-why : tie.Need-enum-known-why Inv-loop μ-loop
+enum-known-why c = search needs
+
+same-length : tie.Need-same-length Inv-loop μ-loop
+same-length c = wrote-long (c .before .before .before .before .before .before .before .loop .inv .wrote)
+
+returns : tie.Need-returns Inv-loop μ-loop
+returns c = one-not _ _ _ _ (c .before .before .before .before .before .before .before .loop .inv) (c .before .before .before .before .before .before .loop-test .taken) (c .before .before .before .before .before .next .ensures) (sym (c .before .why .given .1) ∙ c .before .before .before .argument .ensures) _
+
+add-i : tie.Need-add-i Inv-loop μ-loop
+add-i c = omega (arith, one-more _ _ _ _ (c .before .before .before .before .before .before .before .loop .inv) (c .before .before .before .before .before .before .loop-test .taken), kinds-few (c .before .before .before .before .before .before .before .before .before .before .before .args .k) (c .before .before .before .before .before .before .before .before .before .before .before .pre .1))
+
+kind-requires-2 : tie.Need-kind-requires-2 Inv-loop μ-loop
+kind-requires-2 c κs = c .before .before .before .before .before .before .before .before .before .before .before .pre .1
+
+loop-less : tie.Need-loop-less Inv-loop μ-loop
+loop-less c = omega (arith, one-more _ _ _ _ (c .before .before .before .before .before .before .before .before .loop .inv) (c .before .before .before .before .before .before .before .loop-test .taken))
+
+loop-again : tie.Need-loop-again Inv-loop μ-loop
+loop-again c = next _ _ _ _ (c .before .before .before .before .before .before .before .before .loop .inv) (c .before .before .before .before .before .before .before .loop-test .taken) (c .before .before .before .before .before .before .next .ensures) (sym (c .before .before .v .given .1) ∙ c .before .before .before .before .argument .ensures) (c .before .before .before .before .before .before .before .before .before .before .before .before .pre .1) (c .before .before .before .before .before .before .before .before .before .before .before .before .pre .2) (c .kind2 .ensures)
+
+next-requires-2 : tie.Need-next-requires-2 Inv-loop μ-loop
+next-requires-2 c κs = c .before .loop .inv .within
+
+same-length-2 : tie.Need-same-length-2 Inv-loop μ-loop
+same-length-2 c = wrote-long (c .before .before .before .before .loop .inv .wrote)
+
+returns-2 : tie.Need-returns-2 Inv-loop μ-loop
+returns-2 c = too-many _ _ _ _ (c .before .before .before .before .loop .inv) (c .before .before .before .before .before .before .before .before .pre .1) (c .before .before .before .loop-test .left) (c .before .before .next2 .ensures) (c .if1 .taken)
+
+same-length-3 : tie.Need-same-length-3 Inv-loop μ-loop
+same-length-3 c = wrote-long (c .before .before .before .before .loop .inv .wrote)
+
+returns-3 : tie.Need-returns-3 Inv-loop μ-loop
+returns-3 c = all-there _ _ _ _ (c .before .before .before .before .loop .inv) (c .before .before .before .before .before .before .before .before .pre .1) (c .before .before .before .loop-test .left) (c .before .before .next2 .ensures) (c .if1 .left)
+
+pub read-spec : {M : Type 1} → statement M
+read-spec =
+    tie.close
+    (tie.spec
+    Inv-loop
+    μ-loop
+    kind-requires
+    loop-holds
+    next-requires
+    sub-argument
+    part-argument-start
+    part-argument-end
+    argument-requires
+    enum-known-v
+    add-w
+    mul-w
+    slice-write-w
+    enum-known-why
+    same-length
+    returns
+    add-i
+    kind-requires-2
+    loop-less
+    loop-again
+    next-requires-2
+    same-length-2
+    returns-2
+    same-length-3
+    returns-3)

@@ -1,0 +1,25 @@
+use Rattle.lines.specs.Values.{argumentIn}
+use lib.ListN.{length}
+use mathlib.Core.Path.{_∙_}
+use borrow.Author.Tests.{lt-ltb, le-ltb, eq-eqb, ne-eqb}
+use borrow.Author.Needs.{needs}
+use Rattle.lines.proofs.value.argument.Statement.{statement}
+use Rattle.lines.proofs.value.argument.Tie as tie
+
+worth-requires : tie.Need-worth-requires
+worth-requires c κs = search needs
+
+returns : tie.Need-returns
+unfolding argumentIn
+returns c = c .worth .ensures ∙ rw (lt-ltb 0 (length (c .before .before .before .args .w .now)) (c .before .if1 .taken))
+
+returns-2 : tie.Need-returns-2
+unfolding argumentIn
+returns-2 c = rw (le-ltb 0 (length (c .before .before .before .args .w .now)) (c .before .if1 .left), eq-eqb (c .before .before .before .args .kind) 111 (c .if2 .taken))
+
+returns-3 : tie.Need-returns-3
+unfolding argumentIn
+returns-3 c = rw (le-ltb 0 (length (c .before .before .before .args .w .now)) (c .before .if1 .left), ne-eqb (c .before .before .before .args .kind) 111 (c .if2 .left))
+
+pub argument-spec : {M : Type 1} → statement M
+argument-spec = tie.close (tie.spec worth-requires returns returns-2 returns-3)

@@ -1,0 +1,3 @@
+//! Stub: names the parts below.
+
+pub mod riscv;

@@ -1,0 +1,5 @@
+//! Stub: names the parts below.
+
+pub mod qemu;
+pub mod register;
+pub use register::*;

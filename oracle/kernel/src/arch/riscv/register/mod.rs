@@ -1,0 +1,5 @@
+//! Stub: the registers that the carried files read.
+
+pub mod satp;
+pub mod sstatus;
+pub mod tp;

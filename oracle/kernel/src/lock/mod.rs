@@ -1,0 +1,3 @@
+//! Stub: names the carried spinlock. The sleep lock is not needed.
+
+pub mod spinlock;

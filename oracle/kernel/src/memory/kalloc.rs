@@ -1,0 +1,1 @@
+//! Stub: pages come from the host's allocator, through `Box`.

@@ -1,0 +1,1 @@
+//! Stub: no program is loaded.
