@@ -19,22 +19,22 @@ use Rattle.lines.specs.declared.arguments.Args.the-variants.{All, Not}
 use Rattle.lines.specs.Words.{firstWord, Cut}
 use Rattle.lines.specs.Values.{argumentIn}
 use Rattle.lines.specs.Grammar.{commandCount, kindsOf, kindAt}
-use Rattle.lines.specs.Meaning.{Arguments, are, not, andMore, argumentsIn, Told}
+use Rattle.lines.specs.Meaning.{Arguments, are, lack, andMore, argumentsIn, Told}
 use Rattle.lines.proofs.GrammarLaws.{kinds-few, kinds-end}
 
 unfoldable pub prefixed : List ℕ → Arguments → Arguments
 prefixed l (are m) = are (l ++ m)
-prefixed l (not why) = not why
+prefixed l (lack why) = lack why
 
 prefixed-none : (a : Arguments) → prefixed [] a ≡ a
 unfolding prefixed
 prefixed-none (are l) = refl
-prefixed-none (not why) = refl
+prefixed-none (lack why) = refl
 
 prefixed-more : (l : List ℕ) (v : ℕ) (a : Arguments) → prefixed l (andMore (Is v) a) ≡ prefixed (l ++ (v ∷ [])) a
 unfolding prefixed andMore
 prefixed-more l v (are m) = ap are (sym (append-snoc l v m))
-prefixed-more l v (not why) = refl
+prefixed-more l v (lack why) = refl
 
 -- the length of the word that was cut
 pub cut-length : {l : List ℕ} {at : ℕ} {w : Word} → Cut l at w → length (firstWord (drop at l)) ≡ w .to - w .from
@@ -95,7 +95,7 @@ module _ (k : ℕ) (line : List ℕ) (start : ℕ) (b : List ℕ) where
       last-is : argumentsIn (kindsOf k) (drop start line) ≡ prefixed (m .values) (argumentsIn [] (drop at line))
       last-is = m .sofar ∙ rw (drop-of-length-le (kindsOf k) {i = i} (kinds-end k h i (sym (m .here) ∙ e)))
 
-      over : c .from < c .to → prefixed (m .values) (argumentsIn [] (drop at line)) ≡ not TooMany
+      over : c .from < c .to → prefixed (m .values) (argumentsIn [] (drop at line)) ≡ lack TooMany
       unfolding argumentsIn prefixed
       over l = rw (lt-ltb 0 (length (firstWord (drop at line))) (omega (arith, cut-length cut)))
 

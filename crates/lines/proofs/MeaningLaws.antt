@@ -30,7 +30,7 @@ use Rattle.lines.specs.declared.arguments.Args.the-variants.{All, Not}
 use Rattle.lines.specs.Words.{firstWord, afterWord, Cut}
 use Rattle.lines.specs.Values.{nameGood, nameBytes, nameSize, valueIn, argumentIn}
 use Rattle.lines.specs.Grammar.{command, grammar, commandCount, place, kindsOf}
-use Rattle.lines.specs.Meaning.{Arguments, are, not, andMore, argumentsIn, Told, passed, called, misread, calledBy, wordsOf, commandMeans, withArguments, means, saidBy, saidOf, NameThere}
+use Rattle.lines.specs.Meaning.{Arguments, are, lack, andMore, argumentsIn, Told, passed, called, misread, calledBy, wordsOf, commandMeans, withArguments, means, saidBy, saidOf, NameThere}
 use Rattle.lines.proofs.ArgumentLaws.{cut-length}
 
 -- ---- the call
@@ -84,12 +84,12 @@ told-by a b d r x e t = subst (λ (y : Args). Told a b y d) e t
 pub told-all : (k : ℕ) (l d : List ℕ) (a : Arguments) → Told a (replicate 10 0) All d → commandMeans k l d ≡ withArguments k l a
 unfolding Told withArguments
 told-all k l d (are vs) t = ap (commandMeans k l) t
-told-all k l d (not why) t = absurd t
+told-all k l d (lack why) t = absurd t
 
 pub told-not : (k : ℕ) (l b d : List ℕ) (a : Arguments) {why : Why} → Told a b (Not why) d → misread why ≡ withArguments k l a
 unfolding Told withArguments
 told-not k l b d (are vs) t = absurd t
-told-not k l b d (not why) t = ap misread t
+told-not k l b d (lack why) t = ap misread t
 
 -- ---- the line
 module _ (l : List ℕ) where

@@ -26,23 +26,23 @@ use Rattle.lines.specs.Grammar.{commandCount, place, kindsOf}
 -- ---- the arguments of a command, or why there are none
 pub data Arguments : Type 0 where
   are : List ℕ → Arguments
-  not : Why → Arguments
+  lack : Why → Arguments
 
 unfoldable pub andMore : Value → Arguments → Arguments
 andMore (Is v) (are l) = are (v ∷ l)
-andMore (Is v) (not why) = not why
-andMore (No why) more = not why
+andMore (Is v) (lack why) = lack why
+andMore (No why) more = lack why
 
 unfoldable pub argumentsIn : List ℕ → List ℕ → Arguments
-argumentsIn [] l = cond (ltb 0 (length (firstWord l))) (not TooMany) (are [])
+argumentsIn [] l = cond (ltb 0 (length (firstWord l))) (lack TooMany) (are [])
 argumentsIn (k ∷ kinds) l = andMore (argumentIn k (firstWord l)) (argumentsIn kinds (afterWord l))
 
 -- what the code told of them: d is b with the arguments from place 1 on
 unfoldable pub Told : Arguments → List ℕ → Args → List ℕ → Type 0
 Told (are l) b All d = d ≡ put b 1 l
 Told (are l) b (Not why) d = ⊥
-Told (not why) b All d = ⊥
-Told (not why) b (Not told) d = told ≡ why
+Told (lack why) b All d = ⊥
+Told (lack why) b (Not told) d = told ≡ why
 
 -- ---- a line
 pub data Meaning : Type 0 where
@@ -79,7 +79,7 @@ commandMeans k l w =
 
 unfoldable pub withArguments : ℕ → List ℕ → Arguments → Meaning
 withArguments k l (are vs) = commandMeans k l (put (replicate 10 0) 1 vs)
-withArguments k l (not why) = misread why
+withArguments k l (lack why) = misread why
 
 -- an empty line and one that starts with # are passed over
 unfoldable pub means : List ℕ → Meaning

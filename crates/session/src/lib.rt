@@ -124,7 +124,7 @@ fn take(
     Place { len, number, at }
 }
 
-// Reads once; false: there is no more.
+// Reads once, and answers the lines that are whole by then.
 fn listen(
     t: &mut [u64; Table::WORDS],
     line: &mut [u8],
