@@ -1,8 +1,11 @@
 #!/bin/sh
-# Makes each difference of DIFFERENCES.txt again. Builds both profiles.
+# Makes each difference of docs/DIFFERENCES.md again, by the Rust, by the plain table, and by PROGRAM if it is given.
+# usage: differences.sh [PROGRAM [ARGUMENTS]]
+# Builds both profiles.
 here=$(cd "$(dirname "$0")" && pwd)
-cd "$here" || exit 1
-cargo build --quiet --release --offline && cargo build --quiet --profile unasserted --offline || exit 1
+page=$here/../docs/DIFFERENCES.md
+target=$here/target
+(cd "$here" && cargo build --quiet --release --offline && cargo build --quiet --profile unasserted --offline) || exit 1
 
 # The calls of a line, one on each line.
 spread() {
@@ -17,41 +20,43 @@ spread() {
 
 # The output on one line, with zero bytes and byte 127 made visible.
 flat() {
-    LC_ALL=C sed 's/\x00/\\0/g; s/\x7f/\\177/g' | tr '\n' ' '
+    LC_ALL=C sed 's/\x00/\\0/g; s/\x7f/\\177/g; s/$/;/' | tr '\n' ' '
 }
 
 check() {
     case $2 in
-        *"$3"*) ;;
-        *) echo "NOT SO ($1): $title"; failed=1 ;;
+        *"${3:-nothing is said}"*) ;;
+        *) echo "NOT SO ($1): $title"; echo "  $2"; failed=1 ;;
     esac
 }
 
+# Runs an entry. `with` starts the pid counter elsewhere, which PROGRAM can't.
 settle() {
     [ -n "$calls" ] || return
     count=$((count + 1))
     text=$(spread "$calls")
     # shellcheck disable=SC2086
-    found=$(printf '%s\n' "$text" | "target/$profile/oracle" --unguarded $with 2>/dev/null | flat)
-    check rust "$found" "$rust"
-    if [ -n "$document" ]; then
-        found=$(printf '%s\n' "$text" | target/release/model | flat)
-        check document "$found" "$document"
+    check rust "$(printf '%s\n' "$text" | "$target/$profile/oracle" --unguarded $with 2>/dev/null | flat)" "$rust"
+    # shellcheck disable=SC2086
+    check plain "$(printf '%s\n' "$text" | "$target/release/model" $with | flat)" "$table"
+    if [ $# -gt 0 ] && [ -z "$with" ]; then
+        others=$((others + 1))
+        check "$1" "$(printf '%s\n' "$text" | "$@" | flat)" "$table"
     fi
 }
 
-failed=0 count=0 title='' calls=''
+failed=0 count=0 others=0 title='' calls=''
 while IFS= read -r line; do
     case $line in
-        'calls: '*) calls=${line#calls: } with='' profile=release document='' rust='' ;;
-        'with: '*) with=${line#with: } ;;
-        'profile: '*) profile=${line#profile: } ;;
-        'document: '*) document=${line#document: } ;;
-        'rust: '*) rust=${line#rust: } ;;
-        '') settle; calls='' ;;
-        *) title=$line ;;
+        '    calls: '*) calls=${line#    calls: } with='' profile=release table='' rust='' ;;
+        '    with: '*) with=${line#    with: } ;;
+        '    profile: '*) profile=${line#    profile: } ;;
+        '    table: '*) table=${line#    table: } ;;
+        '    rust: '*) rust=${line#    rust: } ;;
+        '**'*) title=$line ;;
+        '') settle "$@"; calls='' ;;
     esac
-done <DIFFERENCES.txt
-settle
-echo "$count differences made again"
+done <"$page"
+echo "$count differences made again by the Rust and by the plain table"
+[ $# -eq 0 ] || echo "$others of them by $*"
 exit $failed

@@ -46,7 +46,7 @@ fn word_of(x: i32) -> u64
     x as u64
 }
 
-fn put(b: &mut [u64], at: usize, x: u64, y: u64, z: u64)
+pub fn put(b: &mut [u64], at: usize, x: u64, y: u64, z: u64)
     requires { ⌜ at + answerWords ≤ length (now b) ⌝ }
     ensures { λ _. ⌜ now (b .exit) ≡ put (now (b .entry)) at (x ∷ y ∷ z ∷ []) ⌝ }
 {

@@ -80,3 +80,14 @@ three-first k p q r fits = fits-first k p q (fits-first k (p ++ q) r fits)
 
 pub three-next : {b a : List ℕ} {k m : ℕ} (p q r : List ℕ) → k + length (p ++ q ++ r) ≤ length b → Wrote b k p a m → m + length q ≤ length a
 three-next {k = k} p q r fits u = fits-next q (fits-first k (p ++ q) r fits) u
+
+-- the text of a value that is known
+pub wrote-as : {A : Type 0} (f : A → List ℕ) (y : A) {x : A} {b a : List ℕ} {k n : ℕ} → x ≡ y → Wrote b k (f y) a n → Wrote b k (f x) a n
+wrote-as f y e w = rw e w
+
+-- the same at once with its bound; and room for a text that is no longer
+pub wrote-near : {A : Type 0} (f : A → List ℕ) (y : A) {x : A} {b a : List ℕ} {k n m : ℕ} → x ≡ y → length (f y) ≤ m → Wrote b k (f y) a n → Wrote b k (f x) a n × (n ≤ k + m)
+wrote-near f y e h w = (wrote-as f y e w, omega (arith, w .place))
+
+pub room-left : (k : ℕ) {j m n : ℕ} → j ≤ m → k + m ≤ n → k + j ≤ n
+room-left k h r = omega arith

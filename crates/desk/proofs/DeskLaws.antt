@@ -1,4 +1,4 @@
--- The slots of the table, shown one by one.
+-- A line's answer, by what the line means.
 use Prim.Native.Nat.{ℕ, zero, suc, _+_, _*_, _≤_, _<_}
 use native.Mathlib.Omega.{arith}
 use mathlib.Core.Path.{_≡_, refl, sym, ap, _∙_}
@@ -18,37 +18,11 @@ use Rattle.rules.specs.Runs.{Call}
 use Rattle.buffers.specs.Text.{Wrote}
 use Rattle.buffers.proofs.TextLaws.{wrote-none, wrote-long, wrote-more}
 use Rattle.texts.specs.Texts.{answerText, answerTop}
-use Rattle.shows.specs.Shows.{slotText, slotTop}
-use Rattle.desk.specs.Desk.{slotsText, showText, misreadText, tableAfter, textFor, deskTop, Performed, Answered}
+use Rattle.shows.specs.Shows.{showText}
+use Rattle.desk.specs.Desk.{misreadText, tableAfter, textFor, misreadTop, deskTop, Performed, Answered}
 use Rattle.lines.specs.Meaning.{Meaning, passed, called, listed, shows, renews, misread, saidOf}
 use Rattle.lines.specs.declared.Why.{Why}
 use Rattle.lines.specs.declared.Said.{Said}
-
--- s slots are shown
-pub record Shown (t : Table) (b : List ℕ) (at s : ℕ) (d : List ℕ) (on : ℕ) : Type 0 where
-  pub few : s ≤ slotCount
-  pub text : Wrote b at (slotsText t s) d on
-  pub within : on ≤ at + slotTop * s
-
-pub shown-none : (t : Table) (b : List ℕ) (at : ℕ) → at ≤ length b → Shown t b at 0 b at
-unfolding slotsText
-shown-none t b at h = record { few = omega arith; text = wrote-none b at h; within = omega arith }
-
-module _ {t : Table} {b : List ℕ} {at s : ℕ} {d : List ℕ} {on : ℕ} (w : Shown t b at s d on) where
-  pub shown-room : s < slotCount → at + slotTop * slotCount ≤ length b → on + slotTop ≤ length d
-  unfolding nameSize
-  shown-room h k = omega (arith, w .within, wrote-long (w .text))
-
-  pub shown-next : {e : List ℕ} {end : ℕ} → s < slotCount → Wrote d on (slotText t s) e end → end ≤ on + slotTop → Shown t b at (s + 1) e end
-  unfolding slotsText nameSize
-  shown-next h v l = let z : s + 1 ≡ suc s = omega arith in rw z record {
-    few = h;
-    text = wrote-more (w .text) v;
-    within = omega (arith, w .within);
-  }
-
-  pub shown-all : slotCount ≤ s → Wrote b at (slotsText t slotCount) d on × (on ≤ at + slotTop * slotCount)
-  shown-all h = let z : s ≡ slotCount = omega (arith, w .few) in rw (← z) (w .text, w .within)
 
 -- ---- the listing is no longer than the slots shown
 module _ (t : Table) (w : Sound t) where
@@ -96,14 +70,14 @@ module _ (t : Table) (number : ℕ) (m : Meaning) (b : List ℕ) (at : ℕ) wher
     unfolding tableAfter textFor nameSize
     fresh-made e f w v h = answered-by renews e f w v (omega arith)
 
-    pub why-said : (why : Why) → misread why ≡ m → Sound t → Wrote b at (misreadText number why) d end → end ≤ at + 62 → Answered t number m t b at d end
+    pub why-said : (why : Why) → misread why ≡ m → Sound t → Wrote b at (misreadText number why) d end → end ≤ at + misreadTop → Answered t number m t b at d end
     unfolding tableAfter textFor nameSize
     why-said why e w v h = answered-by (misread why) e refl w v (omega arith)
 
 pub said-is : (n : List ℕ) (r x : Said) {m : Meaning} → r ≡ x → saidOf n r ≡ m → saidOf n x ≡ m
 said-is n r x e f = sym (ap (saidOf n) e) ∙ f
 
-pub desk-room : (at : ℕ) {n : ℕ} → at + deskTop ≤ n → at + 62 ≤ n
+pub desk-room : (at : ℕ) {n : ℕ} → at + deskTop ≤ n → at + misreadTop ≤ n
 unfolding nameSize
 desk-room at h = omega arith
 

@@ -1,18 +1,18 @@
 -- A line answered: what it does to the table, and the text that comes back.
-use Prim.Native.Nat.{ℕ, zero, suc, _+_, _*_, _≤_}
+use Prim.Native.Nat.{ℕ, _+_, _≤_}
 use mathlib.Core.Path.{_≡_}
 use mathlib.Core.Bool.{cond}
 use mathlib.Core.List.{List, [], _++_}
 use Rattle.rules.specs.declared.Refusal.the-variants.{NoRoom}
 use Rattle.rules.specs.declared.Answer.the-variants.{Done, Refused}
-use Rattle.rules.specs.Sizes.{slotCount}
 use Rattle.rules.specs.Model.{Table, fresh}
 use Rattle.rules.specs.Listing.{bytes, listing, fitsIn}
 use Rattle.rules.specs.Runs.{Call, step}
 use Rattle.promises.specs.Order.Sound.{Sound}
 use Rattle.buffers.specs.Text.{Wrote}
-use Rattle.texts.specs.Texts.{field, answerText, answerTop}
-use Rattle.shows.specs.Shows.{headText, slotText, headTop, slotTop}
+use Rattle.pieces.specs.Pieces.{field}
+use Rattle.texts.specs.Texts.{answerText, answerTop}
+use Rattle.shows.specs.Shows.{showText, showTop}
 use Rattle.lines.specs.declared.Why.{Why}
 use Rattle.lines.specs.declared.Why.the-variants.{UnknownWord, TooFew, TooMany, NotANumber, TooLarge, NotAChoice, NotAName, TooLong}
 use Rattle.lines.specs.Meaning.{Meaning, passed, called, listed, shows, renews, misread, means}
@@ -26,14 +26,6 @@ whyText TooLarge = bytes "the number is too large"
 whyText NotAChoice = bytes "not yes or no, or not a wish"
 whyText NotAName = bytes "not two hex digits for each byte"
 whyText TooLong = bytes "over 255 bytes"
-
--- the first slots of the table, one line for each that is in use
-unfoldable pub slotsText : Table → ℕ → List ℕ
-slotsText t zero = []
-slotsText t (suc n) = slotsText t n ++ slotText t n
-
-unfoldable pub showText : Table → List ℕ
-showText t = headText t ++ slotsText t slotCount
 
 unfoldable pub misreadText : ℕ → Why → List ℕ
 misreadText number why = field "? line " number ++ bytes ": " ++ whyText why ++ bytes "\n"
@@ -55,9 +47,15 @@ textFor t number shows = showText t
 textFor t number renews = answerText Done
 textFor t number (misread why) = misreadText number why
 
--- at the longest: all slots in use are shown
+-- at the longest: the reason by itself; a label, 20 digits, the reason and the ends; all slots in use shown
+abbrev pub whyTop : ℕ
+whyTop = 32
+
+abbrev pub misreadTop : ℕ
+misreadTop = 30 + whyTop
+
 abbrev pub deskTop : ℕ
-deskTop = headTop + slotTop * slotCount
+deskTop = showTop
 
 -- a call was made, and its answer written
 pub record Performed (c : Call) (t u : Table) (b : List ℕ) (at : ℕ) (d : List ℕ) (end : ℕ) : Type 0 where

@@ -1,42 +1,30 @@
 // A line answered: what it does to the table, and the text that comes back.
 ghost use mathlib.Core.Path.{_≡_};
 ghost use mathlib.Core.List.{[]};
-ghost use Prim.Native.Nat.{_+_, _*_, _≤_};
+ghost use Prim.Native.Nat.{_+_, _≤_};
 ghost use lib.ListN.{length};
 ghost use Rattle.rules.specs.declared.Answer.the-variants.{Done};
-ghost use Rattle.rules.specs.Sizes.{slotCount};
-ghost use Rattle.rules.specs.Model.{fresh};
 ghost use Rattle.promises.specs.Order.Sound.{Sound};
 ghost use Rattle.words.specs.Reading.{tableOf};
 ghost use Rattle.buffers.specs.Text.{Wrote};
 ghost use Rattle.texts.specs.Texts.{answerText, answerTop};
-ghost use Rattle.shows.specs.Shows.{headTop, slotTop};
 ghost use Rattle.steps.specs.Calls.{callOf};
 ghost use Rattle.lines.specs.Meaning.{means, misread, listed};
-ghost use Rattle.desk.specs.Desk.{whyText, misreadText, showText, slotsText, textFor, deskTop, Performed, Answered};
+ghost use Rattle.desk.specs.Desk.{whyText, misreadText, textFor, whyTop, misreadTop, deskTop, Performed, Answered};
 use lines::Said;
 use lines::Why;
 use rules::Answer;
 use rules::Refusal;
 use rules::Room;
 use steps::Call;
-use texts::piece;
 use words::Table;
 
 // Room for the answer to any line.
-pub const TOP: usize = 66 + 21 * Table::SLOTS + 21 * Table::HARTS + 418 * Table::SLOTS;
-
-fn renew(t: &mut [u64; Table::WORDS])
-    ensures { λ _. ⌜ (tableOf (now (t .exit)) ≡ fresh) × Sound (tableOf (now (t .exit))) ⌝ }
-{
-    let new = Table::new();
-    let words = new.words;
-    *t = words;
-}
+pub const TOP: usize = shows::TOP;
 
 fn write_why(out: &mut [u8], at: usize, why: Why) -> usize
-    requires { ⌜ at + 32 ≤ length (now out) ⌝ }
-    ensures { λ r. ⌜ Wrote (now (out .entry)) at (whyText why) (now (out .exit)) r × (r ≤ at + 32) ⌝ }
+    requires { ⌜ at + whyTop ≤ length (now out) ⌝ }
+    ensures { λ r. ⌜ Wrote (now (out .entry)) at (whyText why) (now (out .exit)) r × (r ≤ at + whyTop) ⌝ }
 {
     match why {
         Why::UnknownWord => buffers::write(out, at, b"unknown command"),
@@ -51,32 +39,13 @@ fn write_why(out: &mut [u8], at: usize, why: Why) -> usize
 }
 
 pub fn write_misread(out: &mut [u8], at: usize, number: u64, why: Why) -> usize
-    requires { ⌜ at + 62 ≤ length (now out) ⌝ }
-    ensures { λ r. ⌜ Wrote (now (out .entry)) at (misreadText number why) (now (out .exit)) r × (r ≤ at + 62) ⌝ }
+    requires { ⌜ at + misreadTop ≤ length (now out) ⌝ }
+    ensures { λ r. ⌜ Wrote (now (out .entry)) at (misreadText number why) (now (out .exit)) r × (r ≤ at + misreadTop) ⌝ }
 {
-    let a = piece::write_field(out, at, b"? line ", number);
+    let a = pieces::write_field(out, at, b"? line ", number);
     let b = buffers::write(out, a, b": ");
     let c = write_why(out, b, why);
     buffers::write(out, c, b"\n")
-}
-
-fn write_slots(t: &[u64; Table::WORDS], out: &mut [u8], at: usize) -> usize
-    requires { ⌜ at + slotTop * slotCount ≤ length (now out) ⌝ }
-    ensures { λ r. ⌜ Wrote (now (out .entry)) at (slotsText (tableOf (now (t .entry))) slotCount) (now (out .exit)) r × (r ≤ at + slotTop * slotCount) ⌝ }
-{
-    let mut on = at;
-    for s in 0..Table::SLOTS {
-        on = shows::write_slot(t, out, on, s);
-    }
-    on
-}
-
-fn write_show(t: &[u64; Table::WORDS], out: &mut [u8], at: usize) -> usize
-    requires { ⌜ Sound (tableOf (now t)) × (at + deskTop ≤ length (now out)) ⌝ }
-    ensures { λ r. ⌜ Wrote (now (out .entry)) at (showText (tableOf (now (t .entry)))) (now (out .exit)) r × (r ≤ at + deskTop) ⌝ }
-{
-    let on = shows::write_head(t, out, at);
-    write_slots(t, out, on)
 }
 
 fn write_list(t: &[u64; Table::WORDS], out: &mut [u8], at: usize, room: u64) -> usize
@@ -115,9 +84,9 @@ pub fn answer(
         Said::Call(c) => perform(t, b"", c, out, at),
         Said::Spawn(len, entry) => perform(t, name, Call::Spawn(0, len, entry), out, at),
         Said::List(room) => write_list(t, out, at, room),
-        Said::Show => write_show(t, out, at),
+        Said::Show => shows::write_show(t, out, at),
         Said::Fresh => {
-            renew(t);
+            words::renew(t);
             texts::write_answer(out, at, Answer::Done)
         }
         Said::Misread(why) => write_misread(out, at, number, why),

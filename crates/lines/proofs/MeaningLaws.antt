@@ -14,10 +14,10 @@ use Rattle.rules.specs.Runs as rules
 use Rattle.buffers.specs.Text.{Wrote}
 use Rattle.buffers.proofs.TextLaws.{wrote-front}
 use Rattle.steps.specs.declared.Call.{Call}
-use Rattle.runs.specs.Codes.{callIn}
-use Rattle.runs.specs.declared.call.Read.{Read}
-use Rattle.runs.specs.declared.call.Read.the-variants as read
-use Rattle.runs.specs.Calls.{asOption}
+use Rattle.codes.specs.Codes.{callIn}
+use Rattle.codes.specs.declared.Read.{Read}
+use Rattle.codes.specs.declared.Read.the-variants as read
+use Rattle.codes.specs.Codes.{asOption}
 use Rattle.lines.specs.declared.Said.{Said}
 use Rattle.lines.specs.declared.Said.the-variants.{Spawn}
 use Rattle.lines.specs.declared.value.Value.{Value}

@@ -10,7 +10,7 @@ use Rattle.rules.specs.Runs as rules
 use Rattle.buffers.specs.Text.{put}
 use Rattle.steps.specs.declared.Call.{Call}
 use Rattle.steps.specs.Calls.{callOf}
-use Rattle.runs.specs.Codes.{isFlag, callIn}
+use Rattle.codes.specs.Codes.{isFlag, callIn}
 use Rattle.lines.specs.declared.Said.{Said}
 use Rattle.lines.specs.declared.Said.the-variants as said
 use Rattle.lines.specs.declared.value.Value.{Value}

@@ -3,9 +3,9 @@ ghost use mathlib.Core.Path.{_≡_};
 ghost use Prim.Native.Nat.{_≤_};
 ghost use lib.ListN.{length, drop};
 ghost use Rattle.lines.specs.Meaning.{means, commandMeans, wordsOf, bits, flagsTogether, saidBy, saidOf, NameThere};
-ghost use Rattle.runs.specs.Codes.{callIn};
+ghost use Rattle.codes.specs.Codes.{callIn};
 use arguments::Args;
-use runs::call::Read;
+use codes::Read;
 use steps::Call;
 
 mod word; // where the words of a line stand
@@ -72,7 +72,7 @@ fn call(k: usize, w: &mut [u64]) -> Said
 {
     flags_together(k, w);
     w[0] = k as u64;
-    match runs::call::first(w) {
+    match codes::first(w) {
         Read::No => Said::Misread(Why::NotAChoice),
         Read::Is(c) => Said::Call(c),
     }

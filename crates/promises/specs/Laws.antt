@@ -1,4 +1,5 @@
--- Laws that know nothing of the table: lists and counts, scans, the ring, decimal digits, signs.
+-- Laws that know nothing of the table: both of two, lists and counts, scans, the ring, decimal digits, signs.
+pub mod Bools
 pub mod Lists
 pub mod Scans
 pub mod Ring

@@ -20,10 +20,10 @@ use Rattle.steps.specs.declared.Call.{Call}
 use Rattle.steps.specs.Calls.{callOf}
 use Rattle.answers.specs.Words.{answerWords, coded, codes}
 use Rattle.answers.proofs.AnswerLaws.{coded-length, codes-length, codes-more}
-use Rattle.runs.specs.Codes.{callWords, callNumbered, callIn}
-use Rattle.runs.specs.Calls.{asOption, followed, callsIn, Ran}
-use Rattle.runs.specs.declared.call.Read.{Read}
-use Rattle.runs.specs.declared.call.Read.the-variants.{No, Is}
+use Rattle.codes.specs.Codes.{callWords, callNumbered, callIn, asOption}
+use Rattle.runs.specs.Calls.{followed, callsIn, Ran}
+use Rattle.codes.specs.declared.Read.{Read}
+use Rattle.codes.specs.declared.Read.the-variants.{No, Is}
 
 -- ---- one call more
 run-table : (t : Table) (cs : List rules.Call) (c : rules.Call) → rules.run t (cs ++ (c ∷ [])) .table ≡ rules.step (rules.run t cs .table) c .table

@@ -10,14 +10,8 @@ use Rattle.promises.specs.Order.Sound.{Sound}
 use Rattle.buffers.specs.Text.{put}
 use Rattle.steps.specs.declared.Call.{Call}
 use Rattle.steps.specs.Calls.{callOf, least}
-use Rattle.runs.specs.declared.call.Read.{Read}
-use Rattle.runs.specs.declared.call.Read.the-variants.{No, Is}
 use Rattle.answers.specs.Words.{answerWords, codes}
-use Rattle.runs.specs.Codes.{callWords, callIn}
-
-abbrev pub asOption : Read → Option Call
-asOption No = none
-asOption (Is c) = some c
+use Rattle.codes.specs.Codes.{callWords, callIn}
 
 -- n calls at most, up to the first words that are none
 abbrev pub followed : List ℕ → Option Call → List rules.Call → List rules.Call

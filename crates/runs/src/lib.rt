@@ -2,10 +2,8 @@
 ghost use Rattle.promises.specs.Order.Sound.{Sound};
 ghost use Rattle.words.specs.Reading.{tableOf};
 ghost use Rattle.runs.specs.Calls.{within, Ran};
-use call::Read;
+use codes::Read;
 use words::Table;
-
-pub mod call; // a call in eight words
 
 // Makes the calls, up to the first words that are none, and says how many they were.
 pub fn run(
@@ -23,13 +21,13 @@ pub fn run(
     let mut at = 0;
     let mut to = 0;
     while n < most {
-        let Read::Is(c) = call::first(&calls[at..]) else {
+        let Read::Is(c) = codes::first(&calls[at..]) else {
             return n;
         };
         let a = steps::step(t, text, c);
         answers::write(out, to, a);
         n += 1;
-        at += call::WORDS;
+        at += codes::WORDS;
         to += answers::WORDS;
     }
     n

@@ -1,6 +1,6 @@
 -- The rules' tests, case by case, as the code goes through them.
 use Prim.Native.Nat.{ℕ}
-use mathlib.Core.Path.{_≡_, _∙_}
+use mathlib.Core.Path.{_≡_, sym, ap, _∙_}
 use mathlib.Core.Bool.{Bool, true, false, not}
 use lib.Dec.{eqb}
 use borrow.Author.Tests.{eq-eqb, ne-eqb}
@@ -10,18 +10,28 @@ use Rattle.rules.specs.declared.ProcState.the-variants.{UNUSED, ZOMBIE}
 use Rattle.rules.specs.declared.Parent.the-variants.{Nobody, Of}
 use Rattle.rules.specs.declared.Member.{Member}
 use Rattle.rules.specs.declared.Member.the-variants.{Alone, In}
+use Rattle.rules.specs.declared.ProcMeta.{ProcMeta}
 use Rattle.rules.specs.declared.Process.{Process}
 use Rattle.rules.specs.Model.{is}
 use Rattle.rules.specs.Calls.{hasPid, childOf, zombieChildOf, threadOf, threadNamed}
+use Rattle.promises.specs.Laws.Bools.{and-no, and-yes}
 
-module _ (n : Pid) (p : Process) where
-  pub pid-unused : is UNUSED p ≡ true → false ≡ hasPid n p
+module _ (n : Pid) (p : Process) {m : ProcMeta} (f : m ≡ p .meta) where
+  pub pid-other : (m .pid .0 ≡ n .0 → ⊥) → false ≡ hasPid n p
   unfolding hasPid
-  pid-unused e = rw e
+  pid-other d = sym (and-no (not (is UNUSED p)) (ap (λ (k : ProcMeta). eqb (k .pid .0) (n .0)) (sym f) ∙ ne-eqb (m .pid .0) (n .0) d))
 
-  pub pid-used : {b : Bool} → is UNUSED p ≡ false → b ≡ eqb (p .meta .pid .0) (n .0) → b ≡ hasPid n p
+  pub pid-same : {b : Bool} → m .pid .0 ≡ n .0 → b ≡ is UNUSED p → not b ≡ hasPid n p
   unfolding hasPid
-  pid-used e f = f ∙ rw e
+  pid-same e g = ap not g ∙ sym (and-yes (not (is UNUSED p)) (ap (λ (k : ProcMeta). eqb (k .pid .0) (n .0)) (sym f) ∙ eq-eqb (m .pid .0) (n .0) e))
+
+  pub named-other : (g : Member) → (m .pid .0 ≡ n .0 → ⊥) → false ≡ threadNamed n g p
+  unfolding threadNamed
+  named-other g d = sym (and-no (threadOf g p) (ap (λ (k : ProcMeta). eqb (k .pid .0) (n .0)) (sym f) ∙ ne-eqb (m .pid .0) (n .0) d))
+
+  pub named-thread : (g : Member) {b : Bool} → m .pid .0 ≡ n .0 → b ≡ threadOf g p → b ≡ threadNamed n g p
+  unfolding threadNamed
+  named-thread g e h = h ∙ sym (and-yes (threadOf g p) (ap (λ (k : ProcMeta). eqb (k .pid .0) (n .0)) (sym f) ∙ eq-eqb (m .pid .0) (n .0) e))
 
 module _ (s : ℕ) (p : Process) where
   pub child-none : p .kin .parent ≡ Nobody → false ≡ childOf s p
@@ -60,11 +70,3 @@ module _ (p : Process) where
   pub thread-in : (m : Member) {g x : ℕ} {b : Bool} → p .kin .thread ≡ true → m ≡ In g → p .kin .group ≡ In x → b ≡ eqb g x → b ≡ threadOf m p
   unfolding threadOf
   thread-in m e f k h = h ∙ rw (e, f, k)
-
-  pub named-thread : (n : Pid) (m : Member) {b : Bool} → threadOf m p ≡ true → b ≡ eqb (p .meta .pid .0) (n .0) → b ≡ threadNamed n m p
-  unfolding threadNamed
-  named-thread n m e f = f ∙ rw e
-
-  pub named-other : (n : Pid) (m : Member) → threadOf m p ≡ false → false ≡ threadNamed n m p
-  unfolding threadNamed
-  named-other n m e = rw e

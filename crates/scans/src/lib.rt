@@ -40,16 +40,17 @@ pub fn is(t: &[u64; Table::WORDS], i: usize, a: ProcState) -> bool
     word::state_code(a) == word::state_code(state)
 }
 
+// A test on what differs most comes first: a scan then reads one word of most slots.
 fn has_pid(t: &[u64; Table::WORDS], p: Pid, i: usize) -> bool
     requires { ⌜ i < slotCount ⌝ }
     ensures { λ r. ⌜ r ≡ hasPid p (at (tableOf (now (t .entry)) .core) i) ⌝ }
 {
-    if is(t, i, ProcState::UNUSED) {
-        return false;
-    }
     let m = slot::meta_at(t, i);
     let pid = m.pid;
-    pid.0 == p.0
+    if pid.0 != p.0 {
+        return false;
+    }
+    !is(t, i, ProcState::UNUSED)
 }
 
 fn child_of(t: &[u64; Table::WORDS], s: usize, i: usize) -> bool
@@ -99,12 +100,12 @@ fn thread_named(t: &[u64; Table::WORDS], p: Pid, m: Member, i: usize) -> bool
     requires { ⌜ i < slotCount ⌝ }
     ensures { λ r. ⌜ r ≡ threadNamed p m (at (tableOf (now (t .entry)) .core) i) ⌝ }
 {
-    if thread_of(t, m, i) {
-        let n = slot::meta_at(t, i);
-        let pid = n.pid;
-        return pid.0 == p.0;
+    let n = slot::meta_at(t, i);
+    let pid = n.pid;
+    if pid.0 != p.0 {
+        return false;
     }
-    false
+    thread_of(t, m, i)
 }
 
 fn pass(t: &[u64; Table::WORDS], test: Test, i: usize) -> bool
@@ -121,12 +122,22 @@ fn pass(t: &[u64; Table::WORDS], test: Test, i: usize) -> bool
     }
 }
 
+// Four slots a turn, since not every compiler unrolls the loop.
 pub fn find(t: &[u64; Table::WORDS], test: Test) -> Found
     ensures { λ r. ⌜ (asOption r ≡ lowest (passes test) (tableOf (now (t .entry)) .core .slots)) × InRange r ⌝ }
 {
-    for i in 0..Table::SLOTS {
-        if pass(t, test, i) {
-            return Found::At(i);
+    for b in 0..Table::SLOTS / 4 {
+        if pass(t, test, 4 * b) {
+            return Found::At(4 * b);
+        }
+        if pass(t, test, 4 * b + 1) {
+            return Found::At(4 * b + 1);
+        }
+        if pass(t, test, 4 * b + 2) {
+            return Found::At(4 * b + 2);
+        }
+        if pass(t, test, 4 * b + 3) {
+            return Found::At(4 * b + 3);
         }
     }
     Found::Nothing

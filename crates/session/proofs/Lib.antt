@@ -1,1 +1,1 @@
-mod PlaceLaws
+mod StandLaws

@@ -1,38 +1,15 @@
-// Lines from standard input, in whatever pieces they come, and their answers to standard output.
-ghost use mathlib.Core.Path.{_≡_};
+// Standard input to a session, in whatever pieces it comes, and what is said to standard output.
 ghost use Prim.Native.Nat.{_+_, _≤_};
 ghost use lib.ListN.{length};
-ghost use Rattle.promises.specs.Order.Sound.{Sound};
-ghost use Rattle.words.specs.Reading.{tableOf};
 ghost use Rattle.desk.specs.Desk.{deskTop};
-ghost use Rattle.session.specs.Places.{InPlace, Goes};
-use lines::Why;
+ghost use Rattle.talk.specs.Places.{Ready};
+ghost use Rattle.session.specs.Turns.{placeOf};
+use talk::Place;
 use words::Table;
-
-// One byte more than the longest line.
-const LINE: usize = 256;
-
-// How long the line is so far (LINE: too long), the number of the last one, and how much waits to be written.
-struct Place {
-    len: usize,
-    number: u64,
-    at: usize,
-}
 
 enum Turn {
     Goes(Place),
     Ends(Place),
-}
-
-fn push(line: &mut [u8], len: usize, b: u8) -> usize
-    requires { ⌜ (length (now line) ≡ 256) × (len ≤ 256) ⌝ }
-    ensures { λ r. ⌜ r ≤ 256 ⌝ }
-{
-    if len >= LINE {
-        return LINE;
-    }
-    line[len] = b;
-    len + 1
 }
 
 // Writes what waits, if the next answer might not fit behind it.
@@ -47,59 +24,8 @@ fn make_room(out: &[u8], at: usize) -> usize
     0
 }
 
-fn end_line(
-    t: &mut [u64; Table::WORDS],
-    line: &[u8],
-    name: &mut [u8],
-    out: &mut [u8],
-    p: Place,
-) -> Place
-    requires { ⌜ Sound (tableOf (now t)) × (length (now line) ≡ 256) × (256 ≤ length (now name)) × (p .len ≤ 256) × (p .at + deskTop ≤ length (now out)) ⌝ }
-    ensures { λ r. ⌜ Sound (tableOf (now (t .exit))) × (r .len ≤ 256) × (r .at + deskTop ≤ length (now (out .exit))) ⌝ }
-{
-    let number = std::num::wrapping_add_u64(p.number, 1);
-    let len = p.len;
-    if len >= LINE {
-        let at = desk::write_misread(out, p.at, number, Why::TooLong);
-        let on = make_room(out, at);
-        return Place {
-            len: 0,
-            number,
-            at: on,
-        };
-    }
-    let at = desk::answer(t, &line[..len], number, name, out, p.at);
-    let on = make_room(out, at);
-    Place {
-        len: 0,
-        number,
-        at: on,
-    }
-}
-
-fn feed(
-    t: &mut [u64; Table::WORDS],
-    b: u8,
-    line: &mut [u8],
-    name: &mut [u8],
-    out: &mut [u8],
-    p: Place,
-) -> Place
-    requires { ⌜ Sound (tableOf (now t)) × (length (now line) ≡ 256) × (256 ≤ length (now name)) × (p .len ≤ 256) × (p .at + deskTop ≤ length (now out)) ⌝ }
-    ensures { λ r. ⌜ Sound (tableOf (now (t .exit))) × (r .len ≤ 256) × (r .at + deskTop ≤ length (now (out .exit))) ⌝ }
-{
-    if b == b'\n' {
-        return end_line(t, line, name, out, p);
-    }
-    let len = push(line, p.len, b);
-    Place {
-        len,
-        number: p.number,
-        at: p.at,
-    }
-}
-
-fn take(
+// A whole piece of the input.
+fn take_all(
     t: &mut [u64; Table::WORDS],
     chunk: &[u8],
     line: &mut [u8],
@@ -107,24 +33,32 @@ fn take(
     out: &mut [u8],
     p: Place,
 ) -> Place
-    requires { ⌜ Sound (tableOf (now t)) × (length (now line) ≡ 256) × (256 ≤ length (now name)) × (p .len ≤ 256) × (p .at + deskTop ≤ length (now out)) ⌝ }
-    ensures { λ r. ⌜ Sound (tableOf (now (t .exit))) × (r .len ≤ 256) × (r .at + deskTop ≤ length (now (out .exit))) ⌝ }
+    requires { ⌜ Ready (now t) (now line) (now name) (now out) p ⌝ }
+    ensures { λ r. ⌜ Ready (now (t .exit)) (now (line .exit)) (now (name .exit)) (now (out .exit)) r ⌝ }
 {
     let mut len = p.len;
     let mut number = p.number;
     let mut at = p.at;
-    let mut j = 0;
-    while j < chunk.len() {
-        let e = feed(t, chunk[j], line, name, out, Place { len, number, at });
-        len = e.len;
-        number = e.number;
-        at = e.at;
-        j += 1;
+    let mut done = 0;
+    while done < chunk.len() {
+        let e = talk::take(
+            t,
+            &chunk[done..],
+            line,
+            name,
+            out,
+            Place { len, number, at },
+        );
+        let q = e.place;
+        len = q.len;
+        number = q.number;
+        at = make_room(out, q.at);
+        done += e.used;
     }
     Place { len, number, at }
 }
 
-// Reads once, and answers the lines that are whole by then.
+// Reads once.
 fn listen(
     t: &mut [u64; Table::WORDS],
     line: &mut [u8],
@@ -132,8 +66,8 @@ fn listen(
     out: &mut [u8],
     p: Place,
 ) -> Turn
-    requires { ⌜ Sound (tableOf (now t)) × (length (now line) ≡ 256) × (256 ≤ length (now name)) × (p .len ≤ 256) × (p .at + deskTop ≤ length (now out)) ⌝ }
-    ensures { λ r. ⌜ Sound (tableOf (now (t .exit))) × Goes r (length (now (out .exit))) ⌝ }
+    requires { ⌜ Ready (now t) (now line) (now name) (now out) p ⌝ }
+    ensures { λ r. ⌜ Ready (now (t .exit)) (now (line .exit)) (now (name .exit)) (now (out .exit)) (placeOf r) ⌝ }
 {
     let mut chunk = io::buffer();
     let got = libc::read(0, &mut chunk);
@@ -141,27 +75,33 @@ fn listen(
         return Turn::Ends(p);
     }
     let n = io::count(got, &chunk);
-    Turn::Goes(take(t, &chunk[..n], line, name, out, p))
+    Turn::Goes(take_all(t, &chunk[..n], line, name, out, p))
 }
 
 // A proved loop has to end, and nothing says that an input does: it counts its turns, from a number that no run uses up.
-fn hear(t: &mut [u64; Table::WORDS], line: &mut [u8], name: &mut [u8], out: &mut [u8]) -> Place
-    requires { ⌜ Sound (tableOf (now t)) × (length (now line) ≡ 256) × (256 ≤ length (now name)) × (deskTop ≤ length (now out)) ⌝ }
-    ensures { λ r. ⌜ Sound (tableOf (now (t .exit))) × InPlace r (length (now (out .exit))) ⌝ }
+fn hear(
+    t: &mut [u64; Table::WORDS],
+    line: &mut [u8],
+    name: &mut [u8],
+    out: &mut [u8],
+    p: Place,
+) -> Place
+    requires { ⌜ Ready (now t) (now line) (now name) (now out) p ⌝ }
+    ensures { λ r. ⌜ Ready (now (t .exit)) (now (line .exit)) (now (name .exit)) (now (out .exit)) r ⌝ }
 {
-    let mut len = 0;
-    let mut number = 0;
-    let mut at = 0;
+    let mut len = p.len;
+    let mut number = p.number;
+    let mut at = p.at;
     let mut turns = u64::MAX;
     while turns > 0 {
         match listen(t, line, name, out, Place { len, number, at }) {
-            Turn::Goes(p) => {
-                len = p.len;
-                number = p.number;
-                at = p.at;
+            Turn::Goes(q) => {
+                len = q.len;
+                number = q.number;
+                at = q.at;
             }
-            Turn::Ends(p) => {
-                return p;
+            Turn::Ends(q) => {
+                return q;
             }
         }
         turns -= 1;
@@ -169,26 +109,15 @@ fn hear(t: &mut [u64; Table::WORDS], line: &mut [u8], name: &mut [u8], out: &mut
     Place { len, number, at }
 }
 
-// A last line without its end counts, and what waits is written.
-fn finish(t: &mut [u64; Table::WORDS], line: &[u8], name: &mut [u8], out: &mut [u8], p: Place)
-    requires { ⌜ Sound (tableOf (now t)) × (length (now line) ≡ 256) × (256 ≤ length (now name)) × InPlace p (length (now out)) ⌝ }
-{
-    let at = p.at;
-    if p.len > 0 {
-        let e = end_line(t, line, name, out, p);
-        let last = e.at;
-        io::write_all(1, &out[..last]);
-        return;
-    }
-    io::write_all(1, &out[..at]);
-}
-
 pub fn run() {
     let new = Table::new();
     let mut t = new.words;
-    let mut line = [0u8; LINE];
-    let mut name = [0u8; LINE];
+    let mut line = [0u8; talk::LINE];
+    let mut name = [0u8; talk::LINE];
     let mut out = io::large_buffer();
-    let p = hear(&mut t, &mut line, &mut name, &mut out);
-    finish(&mut t, &line, &mut name, &mut out, p);
+    let start = talk::start();
+    let p = hear(&mut t, &mut line, &mut name, &mut out, start);
+    let e = talk::close(&mut t, &line, &mut name, &mut out, p);
+    let at = e.at;
+    io::write_all(1, &out[..at]);
 }

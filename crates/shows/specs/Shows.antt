@@ -1,5 +1,5 @@
 -- The table as text: its first line, and a line for each slot.
-use Prim.Native.Nat.{ℕ, _+_, _*_}
+use Prim.Native.Nat.{ℕ, suc, zero, _+_, _*_}
 use mathlib.Core.Bool.{cond}
 use mathlib.Core.List.{List, [], _∷_, _++_, map}
 use Rattle.rules.specs.declared.ProcState.the-variants.{UNUSED}
@@ -13,7 +13,7 @@ use Rattle.rules.specs.declared.Process.{Process}
 use Rattle.rules.specs.Sizes.{slotCount, hartCount, nameSize}
 use Rattle.rules.specs.Model.{Books, Table, is, at, groupAt}
 use Rattle.rules.specs.Listing.{bytes, digits, stateText}
-use Rattle.texts.specs.Texts.{placeText, hexText, field, flag, place}
+use Rattle.pieces.specs.Pieces.{placeText, hexText, field, flag, place}
 
 -- ---- commas
 -- each after a comma
@@ -67,9 +67,21 @@ usedText b s p = field "slot " s ++ metaText (p .meta) ++ kinText b (p .kin) ++ 
 unfoldable pub slotText : Table → ℕ → List ℕ
 slotText t s = cond (is UNUSED (at (t .core) s)) [] (usedText (t .books) s (at (t .core) s))
 
+-- ---- the whole table
+-- its first slots
+unfoldable pub slotsText : Table → ℕ → List ℕ
+slotsText t zero = []
+slotsText t (suc n) = slotsText t n ++ slotText t n
+
+unfoldable pub showText : Table → List ℕ
+showText t = headText t ++ slotsText t slotCount
+
 -- ---- at the longest, with 20 digits to a number
 abbrev pub headTop : ℕ
 headTop = 66 + 21 * slotCount + 21 * hartCount
 
 abbrev pub slotTop : ℕ
 slotTop = 386 + 2 * nameSize
+
+abbrev pub showTop : ℕ
+showTop = headTop + slotTop * slotCount

@@ -5,7 +5,6 @@ ghost use Rattle.rules.specs.Sizes.{slotCount, hartCount};
 ghost use Rattle.words.specs.Reading.{tableOf};
 ghost use Rattle.buffers.specs.Text.{Wrote};
 ghost use Rattle.shows.specs.Shows.{queueText, hartsText};
-use texts::piece;
 use words::Table;
 use words::book;
 use words::queue;
@@ -18,9 +17,9 @@ pub fn write_queue(t: &[u64; Table::WORDS], out: &mut [u8], at: usize) -> usize
     if n == 0 {
         return buffers::write(out, at, b" queue -");
     }
-    let mut on = piece::write_field(out, at, b" queue ", queue::queued_at(t, 0) as u64);
+    let mut on = pieces::write_field(out, at, b" queue ", queue::queued_at(t, 0) as u64);
     for i in 1..n {
-        on = piece::write_field(out, on, b",", queue::queued_at(t, i) as u64);
+        on = pieces::write_field(out, on, b",", queue::queued_at(t, i) as u64);
     }
     on
 }
@@ -29,9 +28,9 @@ pub fn write_harts(t: &[u64; Table::WORDS], out: &mut [u8], at: usize) -> usize
     requires { ⌜ at + 7 + 21 * hartCount ≤ length (now out) ⌝ }
     ensures { λ r. ⌜ Wrote (now (out .entry)) at (hartsText (tableOf (now (t .entry)) .core .harts)) (now (out .exit)) r × (r ≤ at + 7 + 21 * hartCount) ⌝ }
 {
-    let mut on = piece::write_place(out, at, b" harts ", book::hart_at(t, 0));
+    let mut on = pieces::write_place(out, at, b" harts ", book::hart_at(t, 0));
     for h in 1..Table::HARTS {
-        on = piece::write_place(out, on, b",", book::hart_at(t, h));
+        on = pieces::write_place(out, on, b",", book::hart_at(t, h));
     }
     on
 }

@@ -14,7 +14,6 @@ use listing::state;
 use rules::Member;
 use rules::ProcMeta;
 use rules::ProcState;
-use texts::piece;
 use words::Table;
 use words::book;
 use words::slot;
@@ -35,11 +34,11 @@ pub fn write_meta(out: &mut [u8], at: usize, m: ProcMeta) -> usize
     let state = m.state;
     let pid = m.pid;
     let a = write_state(out, at, state);
-    let b = piece::write_field(out, a, b" channel ", m.channel);
-    let c = piece::write_flag(out, b, b" killed ", m.killed);
-    let d = piece::write_field(out, c, b" status ", m.xstate);
-    let e = piece::write_field(out, d, b" pid ", pid.0);
-    piece::write_flag(out, e, b" queued ", m.queued)
+    let b = pieces::write_field(out, a, b" channel ", m.channel);
+    let c = pieces::write_flag(out, b, b" killed ", m.killed);
+    let d = pieces::write_field(out, c, b" status ", m.xstate);
+    let e = pieces::write_field(out, d, b" pid ", pid.0);
+    pieces::write_flag(out, e, b" queued ", m.queued)
 }
 
 fn write_group(t: &[u64; Table::WORDS], out: &mut [u8], at: usize, g: Member) -> usize
@@ -50,8 +49,8 @@ fn write_group(t: &[u64; Table::WORDS], out: &mut [u8], at: usize, g: Member) ->
         Member::Alone => buffers::write(out, at, b" group - size 0"),
         Member::In(n) => {
             let x = book::group_at(t, n);
-            let on = piece::write_field(out, at, b" group ", n as u64);
-            piece::write_field(out, on, b" size ", x.size)
+            let on = pieces::write_field(out, at, b" group ", n as u64);
+            pieces::write_field(out, on, b" size ", x.size)
         }
     }
 }
@@ -63,9 +62,9 @@ pub fn write_kin(t: &[u64; Table::WORDS], out: &mut [u8], to: usize, s: usize) -
     let k = slot::kin_at(t, s);
     let parent = k.parent;
     let group = k.group;
-    let a = piece::write_place(out, to, b" parent ", parent);
-    let b = piece::write_flag(out, a, b" thread ", k.thread);
-    let c = piece::write_flag(out, b, b" system ", k.system);
+    let a = pieces::write_place(out, to, b" parent ", parent);
+    let b = pieces::write_flag(out, a, b" thread ", k.thread);
+    let c = pieces::write_flag(out, b, b" system ", k.system);
     write_group(t, out, c, group)
 }
 
@@ -82,10 +81,10 @@ fn write_record(out: &mut [u8], at: usize, w: StartWords) -> usize
     requires { ⌜ at + 90 ≤ length (now out) ⌝ }
     ensures { λ r. ⌜ Wrote (now (out .entry)) at (recordText (startOf w)) (now (out .exit)) r × (r ≤ at + 90) ⌝ }
 {
-    let a = piece::write_field(out, at, b" start ", w.entry);
-    let b = piece::write_field(out, a, b"/", w.top);
-    let c = piece::write_field(out, b, b"/", w.arg);
-    piece::write_field(out, c, b"/", w.ret)
+    let a = pieces::write_field(out, at, b" start ", w.entry);
+    let b = pieces::write_field(out, a, b"/", w.top);
+    let c = pieces::write_field(out, b, b"/", w.arg);
+    pieces::write_field(out, c, b"/", w.ret)
 }
 
 fn write_name(out: &mut [u8], at: usize, w: StartWords) -> usize
@@ -94,7 +93,7 @@ fn write_name(out: &mut [u8], at: usize, w: StartWords) -> usize
 {
     let name = name::unpack(w.name0, w.name1);
     let on = buffers::write(out, at, b" name ");
-    piece::write_hex(out, on, &name)
+    pieces::write_hex(out, on, &name)
 }
 
 pub fn write_start(t: &[u64; Table::WORDS], out: &mut [u8], to: usize, s: usize) -> usize
@@ -102,8 +101,8 @@ pub fn write_start(t: &[u64; Table::WORDS], out: &mut [u8], to: usize, s: usize)
     ensures { λ r. ⌜ Wrote (now (out .entry)) to (startText (at (tableOf (now (t .entry)) .core) s .start)) (now (out .exit)) r × (r ≤ to + 183) ⌝ }
 {
     let w = slot::start_at(t, s);
-    let a = piece::write_field(out, to, b" trapframe ", trapframe_at(w.below));
-    let b = piece::write_field(out, a, b" sp ", w.sp);
+    let a = pieces::write_field(out, to, b" trapframe ", trapframe_at(w.below));
+    let b = pieces::write_field(out, a, b" sp ", w.sp);
     let c = write_record(out, b, w);
     write_name(out, c, w)
 }

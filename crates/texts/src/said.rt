@@ -3,7 +3,6 @@ ghost use Prim.Native.Nat.{_+_, _≤_};
 ghost use lib.ListN.{length};
 ghost use Rattle.buffers.specs.Text.{Wrote};
 ghost use Rattle.texts.specs.Texts.{refusalWords, saidOf};
-use crate::piece;
 use rules::Answer;
 use rules::Refusal;
 
@@ -39,19 +38,19 @@ pub fn write_said(out: &mut [u8], at: usize, a: Answer) -> usize
 {
     match a {
         Answer::Done => buffers::write(out, at, b"done"),
-        Answer::Made(p) => piece::write_field(out, at, b"pid ", p.0),
-        Answer::Handed(s) => piece::write_field(out, at, b"slot ", s.0 as u64),
+        Answer::Made(p) => pieces::write_field(out, at, b"pid ", p.0),
+        Answer::Handed(s) => pieces::write_field(out, at, b"slot ", s.0 as u64),
         Answer::Reaped(p, x) => {
-            let on = piece::write_field(out, at, b"reaped ", p.0);
-            piece::write_field(out, on, b" ", x)
+            let on = pieces::write_field(out, at, b"reaped ", p.0);
+            pieces::write_field(out, on, b" ", x)
         }
         Answer::Joined(x) => {
             let on = buffers::write(out, at, b"joined ");
-            piece::write_signed(out, on, x)
+            pieces::write_signed(out, on, x)
         }
         Answer::Blocked => buffers::write(out, at, b"blocked"),
         Answer::Refused(r) => {
-            let on = piece::write_field(out, at, b"refused ", answers::number_of(r));
+            let on = pieces::write_field(out, at, b"refused ", answers::number_of(r));
             let after = buffers::write(out, on, b" ");
             write_refusal(out, after, r)
         }

@@ -20,6 +20,7 @@ use Rattle.rules.specs.Model.{Table, at, is}
 use Rattle.rules.specs.Moves.{sleepOn, lowest, reap}
 use Rattle.rules.specs.Calls.{unwritable, any, childOf, signed, waited, waitedFor, joined, joinedTo, joinedBy}
 use Rattle.rules.specs.Runs.{step, wait, join}
+use Rattle.promises.specs.Laws.Bools.{or-yes}
 use Rattle.promises.specs.Order.Chains.{onCore}
 use Rattle.promises.specs.Did.{Makes}
 use Rattle.scans.specs.declared.Found.{Found}
@@ -43,6 +44,10 @@ module _ (t : Table) (h : ℕ) (w : Wish) (s : ℕ) where
   unfolding waitedFor
   child-reaped i e f k = if-not _ t e (given (ap (λ (m : ProcMeta). Reaped (m .pid) (m .xstate)) f) k)
 
+  pub child-killed : {m : ProcMeta} → m ≡ at (t .core) s .meta → m .killed ≡ true → Makes (waitedFor t h w s none) (Refused NoneSuch) t
+  unfolding waitedFor
+  child-killed f e = if-so _ (or-yes (not (any (lowest (childOf s) (t .core .slots)))) (ap (λ (m : ProcMeta). m .killed) (sym f) ∙ e))
+
   module _ (r : Found) (q : asOption r ≡ lowest (passes (ChildOf s)) (t .core .slots)) where
     -- neither a child nor life in the caller, by what was found
     unfit : (x : Found) → x ≡ r → not (any (lowest (childOf s) (t .core .slots))) || at (t .core) s .meta .killed ≡ not (any (asOption x)) || at (t .core) s .meta .killed
@@ -54,10 +59,6 @@ module _ (t : Table) (h : ℕ) (w : Wish) (s : ℕ) where
     childless z = if-so _ (unfit Nothing z)
 
     module _ {i : ℕ} (z : At i ≡ r) {m : ProcMeta} (f : m ≡ at (t .core) s .meta) where
-      pub child-killed : m .killed ≡ true → Makes (waitedFor t h w s none) (Refused NoneSuch) t
-      unfolding waitedFor
-      child-killed e = if-so _ (unfit (At i) z ∙ ap (λ (m : ProcMeta). m .killed) (sym f) ∙ e)
-
       pub child-awaited : {u : Table} → m .killed ≡ false → u ≡ onCore (sleepOn h s (s + 1)) t → Makes (waitedFor t h w s none) Blocked u
       unfolding waitedFor
       child-awaited e k = if-not _ t (unfit (At i) z ∙ ap (λ (m : ProcMeta). m .killed) (sym f) ∙ e) (moved t (sleepOn h s (ownChannel s)) (sleeps-own t h s s k))

@@ -59,13 +59,13 @@ fn await_child(t: &mut [u64; Table::WORDS], h: usize, w: Wish, s: usize) -> Answ
     requires { ⌜ (h < hartCount) × (s < slotCount) ⌝ }
     ensures { λ r. ⌜ Makes (waitedFor (tableOf (now (t .entry))) h w s none) r (tableOf (now (t .exit))) ⌝ }
 {
-    let Found::At(_) = scans::find(t, Test::ChildOf(s)) else {
-        return Answer::Refused(Refusal::NoneSuch);
-    };
     let m = slot::meta_at(t, s);
     if m.killed {
         return Answer::Refused(Refusal::NoneSuch);
     }
+    let Found::At(_) = scans::find(t, Test::ChildOf(s)) else {
+        return Answer::Refused(Refusal::NoneSuch);
+    };
     moves::sleep_on(t, h, s, (s as u64) + 1);
     Answer::Blocked
 }

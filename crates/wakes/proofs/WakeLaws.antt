@@ -14,6 +14,7 @@ use lib.ListN.{length}
 use Rattle.rules.specs.Sizes.{slotCount}
 use Rattle.rules.specs.Model.{Core, Table, at, is, onMeta, asKilled, withParent}
 use Rattle.rules.specs.Moves.{change, publish, sweep, publishIf, wakeOne, wake, wakeOf, slay, handOver, reparent}
+use Rattle.promises.specs.Laws.Bools.{and-no}
 use Rattle.promises.specs.Laws.Scans.{sweep-keeps}
 use Rattle.promises.specs.Order.Sound.{Queued}
 use Rattle.promises.specs.Order.States.{other}
@@ -32,9 +33,9 @@ module _ (ch s : ℕ) (t : Table) where
   unfolding wakeOne publishIf onCore
   wake-awake e = rw e
 
-  pub wake-other : is SLEEPING (at (t .core) s) ≡ true → (at (t .core) s .meta .channel ≡ ch → ⊥) → t ≡ onCore (wakeOne ch s) t
+  pub wake-other : (at (t .core) s .meta .channel ≡ ch → ⊥) → t ≡ onCore (wakeOne ch s) t
   unfolding wakeOne publishIf onCore
-  wake-other e n = rw (e, ne-eqb (at (t .core) s .meta .channel) ch n)
+  wake-other n = rw (and-no (is SLEEPING (at (t .core) s)) (ne-eqb (at (t .core) s .meta .channel) ch n))
 
   pub wake-this : is SLEEPING (at (t .core) s) ≡ true → at (t .core) s .meta .channel ≡ ch → onCore (publish s) t ≡ onCore (wakeOne ch s) t
   unfolding wakeOne publishIf onCore
@@ -48,6 +49,9 @@ sweep-none f t = refl
 pub sweep-more : (f : ℕ → Core → Core) (t : Table) (n : ℕ) {a b : Table} → b ≡ onCore (f n) a → a ≡ onCore (sweep f n) t → b ≡ onCore (sweep f (n + 1)) t
 unfolding sweep onCore
 sweep-more f t n e i = rw add-one (e ∙ ap (onCore (f n)) i)
+
+pub sweep-next : (f : ℕ → Core → Core) (t : Table) (n m : ℕ) {a b : Table} → m ≡ n + 1 → b ≡ onCore (f n) a → a ≡ onCore (sweep f n) t → b ≡ onCore (sweep f m) t
+sweep-next f t n m z e i = rw z (sweep-more f t n e i)
 
 -- the order half way
 pub sweep-queued : (f : ℕ → Core → Core) → ((i : ℕ) (c : Core) → Queued c → Queued (f i c)) → (n : ℕ) (t : Table) {u : Table} → u ≡ onCore (sweep f n) t → Queued (t .core) → Queued (u .core)

@@ -19,20 +19,24 @@ fn wake_one(t: &mut [u64; Table::WORDS], i: usize, channel: u64)
     requires { ⌜ (i < slotCount) × Queued (tableOf (now t) .core) ⌝ }
     ensures { λ _. ⌜ tableOf (now (t .exit)) ≡ onCore (wakeOne channel i) (tableOf (now (t .entry))) ⌝ }
 {
-    if scans::is(t, i, ProcState::SLEEPING) {
-        let m = slot::meta_at(t, i);
-        if m.channel == channel {
+    let m = slot::meta_at(t, i);
+    if m.channel == channel {
+        if scans::is(t, i, ProcState::SLEEPING) {
             moves::make_runnable(t, i);
         }
     }
 }
 
+// Four slots a turn: no compiler unrolls a loop that publishes.
 pub fn wake_up(t: &mut [u64; Table::WORDS], channel: u64)
     requires { ⌜ Queued (tableOf (now t) .core) ⌝ }
     ensures { λ _. ⌜ tableOf (now (t .exit)) ≡ onCore (wake channel) (tableOf (now (t .entry))) ⌝ }
 {
-    for i in 0..Table::SLOTS {
-        wake_one(t, i, channel);
+    for b in 0..Table::SLOTS / 4 {
+        wake_one(t, 4 * b, channel);
+        wake_one(t, 4 * b + 1, channel);
+        wake_one(t, 4 * b + 2, channel);
+        wake_one(t, 4 * b + 3, channel);
     }
 }
 
@@ -112,7 +116,10 @@ pub fn reparent(t: &mut [u64; Table::WORDS], s: usize)
     ensures { λ _. ⌜ tableOf (now (t .exit)) ≡ onCore (reparent (tableOf (now (t .entry)) .books .init) s) (tableOf (now (t .entry))) ⌝ }
 {
     let init = book::init(t);
-    for i in 0..Table::SLOTS {
-        hand_over(t, init, s, i);
+    for b in 0..Table::SLOTS / 4 {
+        hand_over(t, init, s, 4 * b);
+        hand_over(t, init, s, 4 * b + 1);
+        hand_over(t, init, s, 4 * b + 2);
+        hand_over(t, init, s, 4 * b + 3);
     }
 }

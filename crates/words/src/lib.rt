@@ -36,6 +36,15 @@ impl Table {
     }
 }
 
+// A fresh table in place of the one that was.
+pub fn renew(t: &mut [u64; Table::WORDS])
+    ensures { λ _. ⌜ (tableOf (now (t .exit)) ≡ fresh) × Sound (tableOf (now (t .exit))) ⌝ }
+{
+    let new = Table::new();
+    let words = new.words;
+    *t = words;
+}
+
 // The word in column f of slot s, and cell k.
 fn get(t: &[u64; Table::WORDS], f: usize, s: usize) -> u64
     requires { ⌜ (f < columns) × (s < slotCount) ⌝ }

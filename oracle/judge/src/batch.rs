@@ -79,13 +79,13 @@ impl Batch {
         self.add(oracle, show_every, |_, _| calls.next().cloned());
     }
 
-    /// The first line in which the other side differs.
+    /// The first line in which the other side differs, byte for byte.
     pub fn compare(&self, found: &[u8]) -> Option<Difference> {
         let mut theirs = found.split_inclusive(|&byte| byte == b'\n');
         let ours = self.expected.split_inclusive(|&byte| byte == b'\n');
         for (number, our) in ours.enumerate() {
             let their = theirs.next().unwrap_or(b"(nothing)\n");
-            if our != their && !same(our, their) {
+            if our != their {
                 return Some(self.difference(number, our, their));
             }
         }
@@ -104,34 +104,4 @@ impl Batch {
             found: text(their),
         }
     }
-}
-
-/// A refusal counts by its number, and a name with or without the zeros behind it.
-fn same(our: &[u8], their: &[u8]) -> bool {
-    let (Ok(our), Ok(their)) = (std::str::from_utf8(our), std::str::from_utf8(their)) else {
-        return false;
-    };
-    if our.starts_with("refused ") {
-        let number = |line: &str| {
-            line.split(' ')
-                .take(2)
-                .map(str::to_string)
-                .collect::<Vec<_>>()
-        };
-        return number(our.trim_end()) == number(their.trim_end());
-    }
-    match (our.rsplit_once(" name "), their.rsplit_once(" name ")) {
-        (Some((our, name)), Some((their, other))) if our.starts_with("slot ") => {
-            our == their && short(name) == short(other)
-        }
-        _ => false,
-    }
-}
-
-fn short(name: &str) -> &str {
-    let mut name = name.trim_end();
-    while let Some(front) = name.strip_suffix("00") {
-        name = front;
-    }
-    name
 }

@@ -3,7 +3,7 @@
 use std::fmt::{Display, Formatter, Result};
 use text::{Answer, Call};
 
-/// Where the Rust and document 01 are known to differ; DIFFERENCES.txt has a line for each.
+/// Where the Rust and document 01 are known to differ; docs/DIFFERENCES.md has an entry for each.
 #[derive(Clone, Copy, PartialEq, Eq, Debug)]
 #[repr(usize)]
 pub enum Listed {

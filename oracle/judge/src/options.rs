@@ -10,6 +10,7 @@ usage: judge [OPTIONS] -- PROGRAM [ARGUMENTS]
   --batch N        calls in one run of PROGRAM (20000)
   --show-every N   show the table after every so many calls (1)
   --differences N  stop after so many (3)
+  --pids N         the pid counter of a fresh table (0); PROGRAM has to start there too
 PROGRAM reads calls and writes answers, as lane does.";
 
 #[derive(Clone, Debug)]
@@ -21,7 +22,24 @@ pub struct Options {
     pub batch: usize,
     pub show_every: usize,
     pub differences: u64,
+    pub pids: usize,
     pub command: Vec<String>,
+}
+
+impl Default for Options {
+    fn default() -> Self {
+        Self {
+            seed: 1,
+            calls: 1_000_000,
+            kind: "all".to_string(),
+            depth: 3,
+            batch: 20_000,
+            show_every: 1,
+            differences: 3,
+            pids: 0,
+            command: Vec::new(),
+        }
+    }
 }
 
 impl Options {
@@ -38,6 +56,7 @@ impl Options {
             "--batch" => self.batch = value.parse().ok()?,
             "--show-every" => self.show_every = value.parse().ok().filter(|&n| n > 0)?,
             "--differences" => self.differences = value.parse().ok()?,
+            "--pids" => self.pids = value.parse().ok()?,
             _ => return None,
         }
         let kinds = ["programs", "wild", "short", "all"];
@@ -45,16 +64,7 @@ impl Options {
     }
 
     fn read(mut arguments: impl Iterator<Item = String>) -> Option<Self> {
-        let mut options = Self {
-            seed: 1,
-            calls: 1_000_000,
-            kind: "all".to_string(),
-            depth: 3,
-            batch: 20_000,
-            show_every: 1,
-            differences: 3,
-            command: Vec::new(),
-        };
+        let mut options = Self::default();
         while let Some(name) = arguments.next() {
             if name == "--" {
                 options.command = arguments.collect();

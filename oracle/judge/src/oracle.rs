@@ -27,7 +27,7 @@ pub struct Oracle {
     names: LongNames,
     broken: Option<String>,
     /// Where a fresh table's pid counter starts; no list of calls could bring it near its top.
-    pub first_pids: usize,
+    first_pids: usize,
     pub counts: Counts,
 }
 
@@ -113,6 +113,14 @@ impl Oracle {
             first_pids: 0,
             counts: Counts::default(),
         };
+        oracle.restart();
+        oracle
+    }
+
+    /// The same, with a pid counter that starts elsewhere.
+    pub fn from_pids(word: Word, pids: usize) -> Self {
+        let mut oracle = Self::new(word);
+        oracle.first_pids = pids;
         oracle.restart();
         oracle
     }

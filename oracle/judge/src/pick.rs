@@ -95,7 +95,11 @@ impl Rng {
             6..9 => self.one(&used),
             _ => None,
         };
-        likely.unwrap_or_else(|| (view.pids + 1).saturating_sub(self.number() % 5))
+        likely.unwrap_or_else(|| {
+            view.pids
+                .saturating_add(1)
+                .saturating_sub(self.number() % 5)
+        })
     }
 
     /// The pid of some thread of the caller's group, dead ones first.

@@ -1,5 +1,5 @@
 //! The carried kernel files on a host. Which files are carried and which are stubs stands in
-//! ../../README.md; carried.sha256 has the sums of the carried ones.
+//! docs/ORACLE.md; carried.sha256 has the sums of the carried ones.
 
 extern crate alloc;
 

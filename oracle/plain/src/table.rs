@@ -79,6 +79,7 @@ pub struct Table {
     pub(crate) groups: [Group; SLOTS],
     pub(crate) init: Option<u8>,
     pub(crate) pids: u64,
+    first_pids: u64,
 }
 
 pub fn kernel_stack(slot: usize) -> u64 {
@@ -97,13 +98,19 @@ impl Default for Table {
 
 impl Table {
     pub fn new() -> Self {
+        Self::from_pids(0)
+    }
+
+    /// A fresh table whose pid counter starts elsewhere, for no list of calls reaches its top.
+    pub fn from_pids(first_pids: u64) -> Self {
         Self {
             slots: [Slot::FREE; SLOTS],
             queue: VecDeque::with_capacity(SLOTS),
             harts: [None; HARTS],
             groups: [Group::default(); SLOTS],
             init: None,
-            pids: 0,
+            pids: first_pids,
+            first_pids,
         }
     }
 
@@ -114,7 +121,7 @@ impl Table {
         self.harts = [None; HARTS];
         self.groups = [Group::default(); SLOTS];
         self.init = None;
-        self.pids = 0;
+        self.pids = self.first_pids;
     }
 
     /// The slot that the hart runs.

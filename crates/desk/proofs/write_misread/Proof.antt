@@ -1,6 +1,6 @@
 use Rattle.desk.specs.Desk.{misreadText}
 use Rattle.buffers.proofs.TextLaws.{wrote-more}
-use Rattle.texts.specs.Texts.{field}
+use Rattle.pieces.specs.Pieces.{field}
 use Rattle.rules.specs.Listing.{bytes}
 use native.Mathlib.Omega.{arith}
 use borrow.Author.Needs.{needs}

@@ -1,7 +1,7 @@
 use lib.Dec.{lit≤}
 use Rattle.lines.specs.declared.Why.the-variants.{UnknownWord, TooFew, TooMany, NotANumber, TooLarge, NotAChoice, NotAName, TooLong}
 use Rattle.desk.specs.Desk.{whyText}
-use Rattle.texts.proofs.TextsLaws.{wrote-near}
+use Rattle.buffers.proofs.TextLaws.{wrote-near}
 use Rattle.rules.specs.Listing.{bytes}
 use borrow.Author.Needs.{needs}
 use Rattle.desk.proofs.write_why.Statement.{statement}

@@ -1,5 +1,5 @@
 use Rattle.lines.specs.Meaning.{bits}
-use Rattle.runs.specs.Codes.{isFlag}
+use Rattle.codes.specs.Codes.{isFlag}
 use borrow.Author.Tests.{lt-ltb, le-ltb}
 use borrow.Author.Needs.{needs}
 use Rattle.lines.proofs.bits.Statement.{statement}

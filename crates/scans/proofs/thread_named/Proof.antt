@@ -1,19 +1,19 @@
-use Rattle.scans.proofs.TestLaws.{named-thread, named-other}
+use Rattle.scans.proofs.TestLaws.{named-other, named-thread}
 use borrow.Author.Needs.{needs}
 use Rattle.scans.proofs.thread_named.Statement.{statement}
 use Rattle.scans.proofs.thread_named.Tie as tie
-
-thread-of-requires : tie.Need-thread-of-requires
-thread-of-requires c κs = search needs
 
 meta-at-requires : tie.Need-meta-at-requires
 meta-at-requires c κs = search needs
 
 returns : tie.Need-returns
-returns c = named-thread _ _ _ (cc) (cc)
+returns c = named-other _ _ (c .before .before .before .before .meta-at .ensures) _ (c .if1 .taken)
+
+thread-of-requires : tie.Need-thread-of-requires
+thread-of-requires c κs = search needs
 
 returns-2 : tie.Need-returns-2
-returns-2 c = named-other _ _ _ (cc)
+returns-2 c = named-thread _ _ (c .before .before .before .before .before .meta-at .ensures) _ (c .before .if1 .left) (c .thread-of .ensures)
 
 pub thread-named-spec : {M : Type 1} → statement M
-thread-named-spec = tie.close (tie.spec thread-of-requires meta-at-requires returns returns-2)
+thread-named-spec = tie.close (tie.spec meta-at-requires returns thread-of-requires returns-2)

@@ -1,7 +1,7 @@
-use mathlib.Core.Path.{refl}
 use Rattle.rules.specs.Sizes.{slotCount, hartCount, nameSize}
-use mathlib.Core.Path.{refl}
 use native.Mathlib.Omega.{arith}
+use mathlib.Core.Path.{refl, sym}
+use lib.Seq.{length-take-le}
 use borrow.Author.Needs.{needs}
 use Rattle.session.proofs.run.Statement.{statement}
 use Rattle.session.proofs.run.Tie as tie
@@ -11,6 +11,9 @@ new-requires c κs = search needs
 
 large-buffer-requires : tie.Need-large-buffer-requires
 large-buffer-requires c κs = search needs
+
+start-requires : tie.Need-start-requires
+start-requires c κs = search needs
 
 slice-aggregate-hear : tie.Need-slice-aggregate-hear
 slice-aggregate-hear c = search needs
@@ -23,19 +26,34 @@ slice-aggregate-hear-3 c = search needs
 
 hear-requires : tie.Need-hear-requires
 unfolding slotCount hartCount nameSize
-hear-requires c κs = (c .before .before .before .before .before .before .new .ensures .1, refl, omega arith, omega (arith, c .before .before .before .before .large-buffer .ensures))
+hear-requires c κs = rw (c .before .before .before .before .start .ensures) record {
+  sound = c .before .before .before .before .before .before .before .new .ensures .1;
+  forLine = refl;
+  forName = omega arith;
+  len = omega arith;
+  forAnswer = omega (arith, c .before .before .before .before .before .large-buffer .ensures);
+}
 
-slice-aggregate-finish : tie.Need-slice-aggregate-finish
-slice-aggregate-finish c = search needs
+slice-aggregate-close : tie.Need-slice-aggregate-close
+slice-aggregate-close c = search needs
 
-slice-aggregate-finish-2 : tie.Need-slice-aggregate-finish-2
-slice-aggregate-finish-2 c = search needs
+slice-aggregate-close-2 : tie.Need-slice-aggregate-close-2
+slice-aggregate-close-2 c = search needs
 
-slice-aggregate-finish-3 : tie.Need-slice-aggregate-finish-3
-slice-aggregate-finish-3 c = search needs
+slice-aggregate-close-3 : tie.Need-slice-aggregate-close-3
+slice-aggregate-close-3 c = search needs
 
-finish-requires : tie.Need-finish-requires
-finish-requires c κs = search needs
+close-requires : tie.Need-close-requires
+close-requires c κs = search needs
+
+array-share-prefix-out : tie.Need-array-share-prefix-out
+array-share-prefix-out c = search needs
+
+slice-aggregate-write-all : tie.Need-slice-aggregate-write-all
+slice-aggregate-write-all c = sym (length-take-le (c .before .before .before .close .result .at) (c .before .before .before .close .last .1 .1 .1 .0) (c .before .before .before .close .ensures .at))
+
+write-all-requires : tie.Need-write-all-requires
+write-all-requires c κs = search needs
 
 returns : tie.Need-returns
 returns c = search needs
@@ -46,12 +64,16 @@ run-spec =
     (tie.spec
     new-requires
     large-buffer-requires
+    start-requires
     slice-aggregate-hear
     slice-aggregate-hear-2
     slice-aggregate-hear-3
     hear-requires
-    slice-aggregate-finish
-    slice-aggregate-finish-2
-    slice-aggregate-finish-3
-    finish-requires
+    slice-aggregate-close
+    slice-aggregate-close-2
+    slice-aggregate-close-3
+    close-requires
+    array-share-prefix-out
+    slice-aggregate-write-all
+    write-all-requires
     returns)

@@ -1,5 +1,5 @@
 use Rattle.promises.specs.Order.Room.{queue-fits}
-use Rattle.texts.specs.Texts.{field, place}
+use Rattle.pieces.specs.Pieces.{field, place}
 use Rattle.shows.specs.Shows.{headText}
 use Rattle.rules.specs.Listing.{bytes}
 use Rattle.buffers.proofs.TextLaws.{wrote-more}

@@ -3,7 +3,7 @@ use Rattle.listing.proofs.LineLaws.{used}
 use Rattle.words.specs.Reading.{tableOf}
 use Rattle.rules.specs.Sizes.{nameSize}
 use Rattle.buffers.proofs.TextLaws.{wrote-none, wrote-more}
-use Rattle.texts.specs.Texts.{field}
+use Rattle.pieces.specs.Pieces.{field}
 use Rattle.shows.specs.Shows.{usedText}
 use Rattle.rules.specs.Listing.{bytes}
 use native.Mathlib.Omega.{arith}

@@ -7,6 +7,12 @@ use borrow.Author.Needs.{needs}
 use Rattle.waits.proofs.await_child.Statement.{statement}
 use Rattle.waits.proofs.await_child.Tie as tie
 
+meta-at-requires : tie.Need-meta-at-requires
+meta-at-requires c κs = search needs
+
+returns : tie.Need-returns
+returns c = child-killed (tableOf (c .before .before .before .args .t .now)) (c .before .before .before .args .h) (c .before .before .before .args .w) (c .before .before .before .args .s) (c .before .meta-at .ensures) (c .if1 .taken)
+
 find-requires : tie.Need-find-requires
 find-requires c κs = search needs
 
@@ -16,14 +22,8 @@ enum-told c = search needs
 enum-told-2 : tie.Need-enum-told-2
 enum-told-2 c = search needs
 
-returns : tie.Need-returns
-returns c = childless (tableOf (c .before .before .before .before .args .t .now)) (c .before .before .before .before .args .h) (c .before .before .before .before .args .w) (c .before .before .before .before .args .s) (c .before .before .find .result) (c .before .before .find .ensures .0) (cc)
-
-meta-at-requires : tie.Need-meta-at-requires
-meta-at-requires c κs = search needs
-
 returns-2 : tie.Need-returns-2
-returns-2 c = child-killed (tableOf (c .before .before .before .before .before .before .before .args .t .now)) (c .before .before .before .before .before .before .before .args .h) (c .before .before .before .before .before .before .before .args .w) (c .before .before .before .before .before .before .before .args .s) (c .before .before .before .before .before .find .result) (c .before .before .before .before .before .find .ensures .0) (sym (c .before .before .before .enum-told .given .1)) (c .before .meta-at .ensures) (c .if1 .taken)
+returns-2 c = childless (tableOf (c .before .before .before .before .before .before .before .args .t .now)) (c .before .before .before .before .before .before .before .args .h) (c .before .before .before .before .before .before .before .args .w) (c .before .before .before .before .before .before .before .args .s) (c .before .before .find .result) (c .before .before .find .ensures .0) (cc)
 
 add-sleep-on : tie.Need-add-sleep-on
 unfolding slotCount
@@ -33,17 +33,17 @@ sleep-on-requires : tie.Need-sleep-on-requires
 sleep-on-requires c κs = search needs
 
 returns-3 : tie.Need-returns-3
-returns-3 c = child-awaited (tableOf (c .before .before .before .before .before .before .before .before .before .args .t .now)) (c .before .before .before .before .before .before .before .before .before .args .h) (c .before .before .before .before .before .before .before .before .before .args .w) (c .before .before .before .before .before .before .before .before .before .args .s) (c .before .before .before .before .before .before .before .find .result) (c .before .before .before .before .before .before .before .find .ensures .0) (sym (c .before .before .before .before .before .enum-told .given .1)) (c .before .before .before .meta-at .ensures) (c .before .before .if1 .left) (c .sleep-on .ensures)
+returns-3 c = child-awaited (tableOf (c .before .before .before .before .before .before .before .before .before .args .t .now)) (c .before .before .before .before .before .before .before .before .before .args .h) (c .before .before .before .before .before .before .before .before .before .args .w) (c .before .before .before .before .before .before .before .before .before .args .s) (c .before .before .before .before .find .result) (c .before .before .before .before .find .ensures .0) (sym (c .before .before .enum-told .given .1)) (c .before .before .before .before .before .before .before .meta-at .ensures) (c .before .before .before .before .before .before .if1 .left) (c .sleep-on .ensures)
 
 pub await-child-spec : {M : Type 1} → statement M
 await-child-spec =
     tie.close
     (tie.spec
+    meta-at-requires
+    returns
     find-requires
     enum-told
     enum-told-2
-    returns
-    meta-at-requires
     returns-2
     add-sleep-on
     sleep-on-requires

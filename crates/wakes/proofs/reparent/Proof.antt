@@ -1,36 +1,75 @@
-use Rattle.wakes.proofs.WakeLaws.{sweep-none, sweep-more, sweep-queued, reparent-all}
+use Rattle.wakes.proofs.WakeLaws.{sweep-none, sweep-next, sweep-queued, reparent-all}
 use mathlib.Core.Path.{_≡_}
-use borrow.Author.Needs.{needs}
 use Rattle.words.specs.Reading.{tableOf}
 use Rattle.promises.specs.Order.Chains.{onCore}
 use native.Mathlib.Omega.{arith}
 use Rattle.rules.specs.Sizes.{slotCount}
-use Prim.Native.Nat.{_≤_, _-_}
+use Prim.Native.Nat.{_≤_, _+_, _*_, _-_}
 use Rattle.rules.specs.Moves.{sweep, handOver}
 use Rattle.promises.specs.Order.QueuedKept.{handOver-queued}
 use Rattle.wakes.proofs.reparent.Statement.{statement}
 use Rattle.wakes.proofs.reparent.Tie as tie
 
 abbrev Inv-loop : tie.InvT-loop
-Inv-loop t₀ s init i₀ t i = (i ≤ slotCount) × (tableOf t ≡ onCore (sweep (handOver init s) i) (tableOf t₀))
+Inv-loop t₀ s init b₀ t b = (4 * b ≤ slotCount) × (tableOf t ≡ onCore (sweep (handOver init s) (4 * b)) (tableOf t₀))
 
 abbrev μ-loop : tie.MeasureT-loop
-μ-loop t₀ s init i₀ t i = slotCount - i
+μ-loop t₀ s init b₀ t b = slotCount - b
 
 init-requires : tie.Need-init-requires Inv-loop μ-loop
-init-requires c κs = search needs
+init-requires c κs = tt
 
 loop-holds : tie.Need-loop-holds Inv-loop μ-loop
 unfolding slotCount
 loop-holds c = (omega arith, sweep-none _ _)
 
+mul-hand-over : tie.Need-mul-hand-over Inv-loop μ-loop
+unfolding slotCount
+mul-hand-over c = omega arith
+
 hand-over-requires : tie.Need-hand-over-requires Inv-loop μ-loop
 unfolding slotCount
 hand-over-requires c κs = (omega arith, c .before .before .before .init .ensures .1, sweep-queued _ (handOver-queued _ _) _ _ (c .before .before .loop .inv .1) (c .before .before .before .before .before .pre))
 
-add-i : tie.Need-add-i Inv-loop μ-loop
+mul-hand-over-2 : tie.Need-mul-hand-over-2 Inv-loop μ-loop
 unfolding slotCount
-add-i c = omega arith
+mul-hand-over-2 c = omega arith
+
+add-hand-over : tie.Need-add-hand-over Inv-loop μ-loop
+unfolding slotCount
+add-hand-over c = omega arith
+
+hand-over-requires-2 : tie.Need-hand-over-requires-2 Inv-loop μ-loop
+unfolding slotCount
+hand-over-requires-2 c κs = (omega arith, c .before .before .before .before .before .init .ensures .1, sweep-queued _ (handOver-queued _ _) _ _ (sweep-next _ _ (4 * c .before .before .before .before .loop .b) (4 * c .before .before .before .before .loop .b + 1) (omega arith) (c .before .hand-over .ensures) (c .before .before .before .before .loop .inv .1)) (c .before .before .before .before .before .before .before .pre))
+
+mul-hand-over-3 : tie.Need-mul-hand-over-3 Inv-loop μ-loop
+unfolding slotCount
+mul-hand-over-3 c = omega arith
+
+add-hand-over-2 : tie.Need-add-hand-over-2 Inv-loop μ-loop
+unfolding slotCount
+add-hand-over-2 c = omega arith
+
+hand-over-requires-3 : tie.Need-hand-over-requires-3 Inv-loop μ-loop
+unfolding slotCount
+hand-over-requires-3 c κs = (omega arith, c .before .before .before .before .before .before .before .init .ensures .1, sweep-queued _ (handOver-queued _ _) _ _ (sweep-next _ _ (4 * c .before .before .before .before .before .before .loop .b + 1) (4 * c .before .before .before .before .before .before .loop .b + 2) (omega arith) (c .before .hand-over2 .ensures) (sweep-next _ _ (4 * c .before .before .before .before .before .before .loop .b) (4 * c .before .before .before .before .before .before .loop .b + 1) (omega arith) (c .before .before .before .hand-over .ensures) (c .before .before .before .before .before .before .loop .inv .1))) (c .before .before .before .before .before .before .before .before .before .pre))
+
+mul-hand-over-4 : tie.Need-mul-hand-over-4 Inv-loop μ-loop
+unfolding slotCount
+mul-hand-over-4 c = omega arith
+
+add-hand-over-3 : tie.Need-add-hand-over-3 Inv-loop μ-loop
+unfolding slotCount
+add-hand-over-3 c = omega arith
+
+hand-over-requires-4 : tie.Need-hand-over-requires-4 Inv-loop μ-loop
+unfolding slotCount
+hand-over-requires-4 c κs = (omega arith, c .before .before .before .before .before .before .before .before .before .init .ensures .1, sweep-queued _ (handOver-queued _ _) _ _ (sweep-next _ _ (4 * c .before .before .before .before .before .before .before .before .loop .b + 2) (4 * c .before .before .before .before .before .before .before .before .loop .b + 3) (omega arith) (c .before .hand-over3 .ensures) (sweep-next _ _ (4 * c .before .before .before .before .before .before .before .before .loop .b + 1) (4 * c .before .before .before .before .before .before .before .before .loop .b + 2) (omega arith) (c .before .before .before .hand-over2 .ensures) (sweep-next _ _ (4 * c .before .before .before .before .before .before .before .before .loop .b) (4 * c .before .before .before .before .before .before .before .before .loop .b + 1) (omega arith) (c .before .before .before .before .before .hand-over .ensures) (c .before .before .before .before .before .before .before .before .loop .inv .1)))) (c .before .before .before .before .before .before .before .before .before .before .before .pre))
+
+add-b : tie.Need-add-b Inv-loop μ-loop
+unfolding slotCount
+add-b c = omega arith
 
 loop-less : tie.Need-loop-less Inv-loop μ-loop
 unfolding slotCount
@@ -38,11 +77,11 @@ loop-less c = omega arith
 
 loop-again : tie.Need-loop-again Inv-loop μ-loop
 unfolding slotCount
-loop-again c = (omega arith, sweep-more _ _ _ (c .hand-over .ensures) (c .before .before .before .loop .inv .1))
+loop-again c = (omega arith, (sweep-next _ _ (4 * c .before .before .before .before .before .before .before .before .before .loop .b + 3) (4 * (c .before .before .before .before .before .before .before .before .before .loop .b + 1)) (omega arith) (c .hand-over4 .ensures) (sweep-next _ _ (4 * c .before .before .before .before .before .before .before .before .before .loop .b + 2) (4 * c .before .before .before .before .before .before .before .before .before .loop .b + 3) (omega arith) (c .before .before .hand-over3 .ensures) (sweep-next _ _ (4 * c .before .before .before .before .before .before .before .before .before .loop .b + 1) (4 * c .before .before .before .before .before .before .before .before .before .loop .b + 2) (omega arith) (c .before .before .before .before .hand-over2 .ensures) (sweep-next _ _ (4 * c .before .before .before .before .before .before .before .before .before .loop .b) (4 * c .before .before .before .before .before .before .before .before .before .loop .b + 1) (omega arith) (c .before .before .before .before .before .before .hand-over .ensures) (c .before .before .before .before .before .before .before .before .before .loop .inv .1))))))
 
 returns : tie.Need-returns Inv-loop μ-loop
 unfolding slotCount
-returns c = let e : c .before .loop .i ≡ slotCount = omega arith in
+returns c = let e : 4 * c .before .loop .b ≡ slotCount = omega arith in
     reparent-all _ (tableOf (c .before .before .before .before .args .t .now)) _ (c .before .before .init .ensures .0) (rw e at (c .before .loop .inv .1))
 
 pub reparent-spec : {M : Type 1} → statement M
@@ -53,8 +92,18 @@ reparent-spec =
     μ-loop
     init-requires
     loop-holds
+    mul-hand-over
     hand-over-requires
-    add-i
+    mul-hand-over-2
+    add-hand-over
+    hand-over-requires-2
+    mul-hand-over-3
+    add-hand-over-2
+    hand-over-requires-3
+    mul-hand-over-4
+    add-hand-over-3
+    hand-over-requires-4
+    add-b
     loop-less
     loop-again
     returns)

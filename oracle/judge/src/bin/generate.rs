@@ -8,7 +8,7 @@ use std::io::{stdout, BufWriter, Write};
 
 fn main() -> std::io::Result<()> {
     let options = Options::get();
-    let mut oracle = Oracle::new(Word::Document);
+    let mut oracle = Oracle::from_pids(Word::Document, options.pids);
     let mut output = BufWriter::new(stdout().lock());
     let mut source = Source::new(&options);
     loop {

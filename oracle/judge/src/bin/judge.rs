@@ -16,7 +16,12 @@ fn main() -> Result<ExitCode> {
         eprintln!("{USE}");
         return Ok(ExitCode::from(2));
     }
-    let mut oracle = Oracle::new(Word::Document);
+    if !answers(&options.command) {
+        let command = options.command.join(" ");
+        eprintln!("judge: `{command}` does not answer `fresh` with `done`");
+        return Ok(ExitCode::from(2));
+    }
+    let mut oracle = Oracle::from_pids(Word::Document, options.pids);
     let mut source = Source::new(&options);
     while oracle.counts.unlisted < options.differences {
         let mut batch = Batch::default();
@@ -27,17 +32,27 @@ fn main() -> Result<ExitCode> {
         let output = pipe::run(&options.command, &batch.input)?;
         if let Some(difference) = batch.compare(&output) {
             oracle.counts.unlisted += 1;
-            tell(&options.command, &batch.lists[difference.list], &difference)?;
+            tell(&options, &batch.lists[difference.list], &difference)?;
         }
     }
     print!("{}", oracle.counts);
-    Ok(ExitCode::from(u8::from(oracle.counts.unlisted > 0)))
+    if oracle.counts.unlisted == 0 {
+        return Ok(ExitCode::SUCCESS);
+    }
+    eprintln!("judge: the program and the Rust disagree; short lists that show it stand above");
+    Ok(ExitCode::FAILURE)
+}
+
+/// The program can be started and speaks the text.
+fn answers(command: &[String]) -> bool {
+    pipe::run(command, b"fresh\n").is_ok_and(|output| output == b"done\n")
 }
 
 /// Prints the difference, with a short list that shows it.
-fn tell(command: &[String], list: &[Call], difference: &Difference) -> Result<()> {
+fn tell(options: &Options, list: &[Call], difference: &Difference) -> Result<()> {
     println!("DIFFERENCE after call {} of a list:", difference.call + 1);
-    let mut oracle = Oracle::new(Word::Document);
+    let command = &options.command;
+    let mut oracle = Oracle::from_pids(Word::Document, options.pids);
     let mut sides = Sides {
         oracle: &mut oracle,
         command,

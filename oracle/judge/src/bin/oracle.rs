@@ -27,9 +27,7 @@ fn main() -> std::io::Result<()> {
         eprintln!("{USE}");
         std::process::exit(2);
     };
-    let mut oracle = Oracle::new(word);
-    oracle.first_pids = pids;
-    oracle.restart();
+    let mut oracle = Oracle::from_pids(word, pids);
     let output = BufWriter::with_capacity(1 << 16, stdout().lock());
     text::serve(&mut oracle, stdin().lock(), output)?;
     eprint!("{}", oracle.counts);

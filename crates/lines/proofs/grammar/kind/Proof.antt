@@ -1,5 +1,5 @@
 use Rattle.lines.proofs.GrammarLaws.{no-kinds}
-use Rattle.runs.proofs.CodeLaws.{past}
+use Rattle.codes.proofs.CodeLaws.{past}
 use Rattle.lines.specs.Grammar.{command, grammar, kindsOf, kindAt}
 use Rattle.rules.specs.Listing.{bytes}
 use mathlib.Core.Path.{_∙_}

@@ -1,5 +1,5 @@
 use Rattle.shows.proofs.ShowLaws.{Listed, listed-start, listed-more, listed-all}
-use Rattle.texts.specs.Texts.{placeText}
+use Rattle.pieces.specs.Pieces.{placeText}
 use Rattle.shows.specs.Shows.{hartsText}
 use Rattle.words.proofs.Facts.{harts-count}
 use Rattle.words.specs.Reading.{tableOf}

@@ -1,7 +1,7 @@
-use Rattle.texts.proofs.TextsLaws.{wrote-as}
+use Rattle.buffers.proofs.TextLaws.{wrote-as}
 use Rattle.words.specs.Reading.{tableOf}
 use Rattle.rules.specs.declared.Member.the-variants.{Alone}
-use Rattle.texts.specs.Texts.{field}
+use Rattle.pieces.specs.Pieces.{field}
 use Rattle.shows.specs.Shows.{groupText}
 use Rattle.rules.specs.Listing.{bytes}
 use Rattle.buffers.proofs.TextLaws.{wrote-more}

@@ -1,4 +1,4 @@
-use Rattle.texts.specs.Texts.{place, flag}
+use Rattle.pieces.specs.Pieces.{place, flag}
 use Rattle.shows.specs.Shows.{kinText}
 use Rattle.rules.specs.Listing.{bytes}
 use Rattle.buffers.proofs.TextLaws.{wrote-more}

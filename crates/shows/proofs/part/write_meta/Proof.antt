@@ -1,4 +1,4 @@
-use Rattle.texts.specs.Texts.{field, flag}
+use Rattle.pieces.specs.Pieces.{field, flag}
 use Rattle.shows.specs.Shows.{metaText}
 use Rattle.rules.specs.Listing.{bytes}
 use Rattle.buffers.proofs.TextLaws.{wrote-more}

@@ -1,7 +1,7 @@
 use mathlib.Core.Path.{refl}
 use lib.Dec.{lit≤}
 use Rattle.buffers.proofs.TextLaws.{wrote-long}
-use Rattle.texts.proofs.TextsLaws.{wrote-near, room-left}
+use Rattle.buffers.proofs.TextLaws.{wrote-near, room-left}
 use Rattle.rules.specs.declared.Refusal.the-variants.{NoSuchHart, HartIdle, HartBusy, QueueEmpty, TableFull, PidsSpent, NoGroup, BadAddress, Unmapped, NoneSuch, StatusUnwritable, InitOutOfTurn, WrongWayOut, NotADevice, NameTooLong, NoRoom, SizeOutOfLimits, NoMemory}
 use Rattle.texts.specs.Texts.{refusalWords}
 use Rattle.rules.specs.Listing.{bytes}

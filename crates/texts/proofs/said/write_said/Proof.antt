@@ -1,7 +1,8 @@
-use Rattle.texts.proofs.TextsLaws.{wrote-as}
+use Rattle.buffers.proofs.TextLaws.{wrote-as}
 use mir.Facts.{toZ-ofZ}
 use Rattle.rules.specs.declared.Answer.the-variants.{Done, Blocked}
-use Rattle.texts.specs.Texts.{field, saidOf}
+use Rattle.pieces.specs.Pieces.{field}
+use Rattle.texts.specs.Texts.{saidOf}
 use Rattle.rules.specs.Listing.{bytes}
 use Rattle.buffers.proofs.TextLaws.{wrote-more}
 use borrow.Author.Needs.{needs}

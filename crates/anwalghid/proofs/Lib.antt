@@ -1,0 +1,3 @@
+mod ExportLaws
+mod TableLaws
+mod SightLaws

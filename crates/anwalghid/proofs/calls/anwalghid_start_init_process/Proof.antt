@@ -1,0 +1,33 @@
+use Rattle.anwalghid.proofs.ExportLaws.{first-sound, not-one, answered}
+use borrow.Author.Needs.{needs}
+use Rattle.anwalghid.proofs.calls.anwalghid_start_init_process.Statement.{statement}
+use Rattle.anwalghid.proofs.calls.anwalghid_start_init_process.Tie as tie
+
+returns : tie.Need-returns
+returns c = not-one _ _ _ (c .before .pre) (c .if1 .taken)
+
+index-1-start-init-process : tie.Need-index-1-start-init-process
+index-1-start-init-process c = search needs
+
+start-init-process-requires : tie.Need-start-init-process-requires
+start-init-process-requires c κs = first-sound _ (c .before .before .pre) (c .before .if1 .left)
+
+write-requires : tie.Need-write-requires
+write-requires c κs = search needs
+
+same-length : tie.Need-same-length
+same-length c = search needs
+
+returns-2 : tie.Need-returns-2
+returns-2 c = answered _ _ (c .before .before .before .before .if1 .left) (c .before .before .start-init-process .ensures) (c .write .ensures)
+
+pub anwalghid-start-init-process-spec : {M : Type 1} → statement M
+anwalghid-start-init-process-spec =
+    tie.close
+    (tie.spec
+    returns
+    index-1-start-init-process
+    start-init-process-requires
+    write-requires
+    same-length
+    returns-2)

@@ -1,0 +1,33 @@
+use Rattle.anwalghid.proofs.ExportLaws.{first-sound, not-one, answered}
+use borrow.Author.Needs.{needs}
+use Rattle.anwalghid.proofs.calls.anwalghid_thread_exit.Statement.{statement}
+use Rattle.anwalghid.proofs.calls.anwalghid_thread_exit.Tie as tie
+
+returns : tie.Need-returns
+returns c = not-one _ _ _ (c .before .pre) (c .if1 .taken)
+
+index-1-thread-exit : tie.Need-index-1-thread-exit
+index-1-thread-exit c = search needs
+
+thread-exit-requires : tie.Need-thread-exit-requires
+thread-exit-requires c κs = first-sound _ (c .before .before .pre) (c .before .if1 .left)
+
+write-requires : tie.Need-write-requires
+write-requires c κs = search needs
+
+same-length : tie.Need-same-length
+same-length c = search needs
+
+returns-2 : tie.Need-returns-2
+returns-2 c = answered _ _ (c .before .before .before .before .if1 .left) (c .before .before .thread-exit .ensures) (c .write .ensures)
+
+pub anwalghid-thread-exit-spec : {M : Type 1} → statement M
+anwalghid-thread-exit-spec =
+    tie.close
+    (tie.spec
+    returns
+    index-1-thread-exit
+    thread-exit-requires
+    write-requires
+    same-length
+    returns-2)

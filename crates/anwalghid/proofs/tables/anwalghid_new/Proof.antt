@@ -1,0 +1,23 @@
+use Rattle.anwalghid.proofs.TableLaws.{not-renewed, renewed-one}
+use borrow.Author.Needs.{needs}
+use Rattle.anwalghid.proofs.tables.anwalghid_new.Statement.{statement}
+use Rattle.anwalghid.proofs.tables.anwalghid_new.Tie as tie
+
+returns : tie.Need-returns
+returns c = not-renewed _ (c .if1 .taken)
+
+index-1-renew : tie.Need-index-1-renew
+index-1-renew c = search needs
+
+renew-requires : tie.Need-renew-requires
+renew-requires c κs = search needs
+
+same-length : tie.Need-same-length
+same-length c = search needs
+
+returns-2 : tie.Need-returns-2
+returns-2 c = renewed-one _ _ (c .before .before .if1 .left) (c .renew .ensures)
+
+pub anwalghid-new-spec : {M : Type 1} → statement M
+anwalghid-new-spec =
+    tie.close (tie.spec returns index-1-renew renew-requires same-length returns-2)

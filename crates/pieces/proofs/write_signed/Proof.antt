@@ -1,0 +1,57 @@
+use Rattle.promises.specs.Laws.Signs.{less-fits, less-cast, less-is, more-cast}
+use Rattle.pieces.proofs.PieceLaws.{signed-low, signed-high}
+use Rattle.rules.specs.Listing.{bytes}
+use native.Mathlib.Omega.{arith}
+use borrow.Author.Needs.{needs}
+use Rattle.pieces.proofs.write_signed.Statement.{statement}
+use Rattle.pieces.proofs.write_signed.Tie as tie
+
+slice-aggregate-write-field : tie.Need-slice-aggregate-write-field
+slice-aggregate-write-field c = search needs
+
+sub-write-field : tie.Need-sub-write-field
+sub-write-field c = less-fits (c .before .before .before .before .args .x) (c .before .before .before .before .fits .x) (c .before .before .if1 .taken)
+
+cast-write-field : tie.Need-cast-write-field
+cast-write-field c = less-cast (c .before .before .before .before .args .x) (c .before .before .before .before .fits .x) (c .before .before .if1 .taken) tt
+
+add-write-field : tie.Need-add-write-field
+add-write-field c = rw (less-is (c .before .before .before .before .args .x) (c .before .before .before .before .fits .x) (c .before .before .if1 .taken)) (omega (arith, c .before .before .before .before .fits .x .sfits))
+
+write-field-requires : tie.Need-write-field-requires
+write-field-requires c κs = search needs
+
+same-length : tie.Need-same-length
+same-length c = search needs
+
+returns : tie.Need-returns
+unfolding bytes
+returns c = (rw (signed-low (c .before .before .before .before .before .before .before .args .x) (c .before .before .before .before .before .before .before .fits .x) (c .before .before .before .before .before .if1 .taken)) at (c .before .before .write-field .ensures .0), search needs)
+
+cast-write-number : tie.Need-cast-write-number
+cast-write-number c = more-cast (c .before .before .before .args .x) (c .before .before .before .fits .x) (c .before .if1 .left) tt
+
+write-number-requires : tie.Need-write-number-requires
+write-number-requires c κs = search needs
+
+same-length-2 : tie.Need-same-length-2
+same-length-2 c = search needs
+
+returns-2 : tie.Need-returns-2
+returns-2 c = (rw (signed-high (c .before .before .before .before .before .before .args .x) (c .before .before .before .before .before .before .fits .x) (c .before .before .before .before .if1 .left)) at (c .before .before .write-number .ensures .0), search needs)
+
+pub write-signed-spec : {M : Type 1} → statement M
+write-signed-spec =
+    tie.close
+    (tie.spec
+    slice-aggregate-write-field
+    sub-write-field
+    cast-write-field
+    add-write-field
+    write-field-requires
+    same-length
+    returns
+    cast-write-number
+    write-number-requires
+    same-length-2
+    returns-2)

@@ -1,0 +1,9 @@
+#!/bin/sh
+# Makes the recorded sample anew: crates/replay/stdin has the calls, crates/replay/stdout the Rust's answers.
+# The lists are those that the judge would send, with a `show` at the end of each.
+here=$(cd "$(dirname "$0")" && pwd)
+to=$here/../crates/replay
+(cd "$here" && cargo build --quiet --release --offline) || exit 1
+"$here/target/release/generate" --kind programs --calls 3000 --seed 68 |
+    awk 'NR > 1 && $0 == "fresh" { print "show" } { print } END { print "show" }' >"$to/stdin" || exit 1
+exec "$here/target/release/oracle" --by-document <"$to/stdin" >"$to/stdout"
