@@ -169,4 +169,43 @@ mod tests {
         assert!(rows[0].iter().chain(&rows[2]).all(|&word| word == u64::MAX));
         assert!(rows[1].iter().all(|&word| word != u64::MAX));
     }
+
+    /// Two tables in order, lent as `count` of them, and an answer that nobody wrote.
+    fn lent(count: usize, call: impl Fn(*mut Row, usize, *mut Said) -> u64) -> u64 {
+        let mut rows = [Words::fresh().0[0], Words::fresh().0[0]];
+        let (before, mut said) = (rows, [7; 3]);
+        let code = call(rows.as_mut_ptr(), count, &mut said);
+        assert!(rows == before && said == [7; 3]);
+        code
+    }
+
+    #[test]
+    fn not_one_table_is_refused_and_nothing_touched() {
+        for count in [0, 2] {
+            // SAFETY: `count` tables in order, and three words.
+            let boot = |t, n, a| unsafe { anwalghid_user_init(t, n, a) };
+            let name = b"clock".as_ptr();
+            let spawn = |t, n, a| unsafe { anwalghid_spawn_system_thread(t, n, name, 5, 1, a) };
+            let new = |t, n, _| unsafe { anwalghid_new(t, n) };
+            assert_eq!(
+                [lent(count, boot), lent(count, spawn), lent(count, new)],
+                [1; 3]
+            );
+        }
+    }
+
+    #[test]
+    fn an_argument_outside_its_range_is_refused_and_nothing_touched() {
+        // SAFETY: one table in order, and three words.
+        let calls: [&dyn Fn(*mut Row, usize, *mut Said) -> u64; 5] = [
+            &|t, n, a| unsafe { anwalghid_fork(t, n, 0, 2, a) },
+            &|t, n, a| unsafe { anwalghid_create_user_thread(t, n, 0, 0, 0, 0, 0, 16, a) },
+            &|t, n, a| unsafe { anwalghid_wait(t, n, 0, 3, a) },
+            &|t, n, a| unsafe { anwalghid_join_user_thread(t, n, 0, 1, u64::MAX, a) },
+            &|t, n, a| unsafe { anwalghid_grow_proc(t, n, 0, 1, 2, a) },
+        ];
+        for call in calls {
+            assert_eq!(lent(1, call), OUT_OF_RANGE);
+        }
+    }
 }

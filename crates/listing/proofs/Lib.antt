@@ -1,4 +1,2 @@
-mod DigitLaws
-mod NameLaws
 pub mod LineLaws
 pub mod RoomLaws

@@ -21,7 +21,8 @@ use Rattle.rules.specs.Model.{Table, stateCode, is, at, free}
 use Rattle.rules.specs.Listing.{bytes, digits, stateText, lineOf, linesOf, listing}
 use Rattle.words.specs.declared.slot.StartWords.{StartWords}
 use Rattle.words.specs.Reading.{bytesOf, startOf}
-use Rattle.listing.specs.Lines.{pidText, stateLabelled, nameShown, nameText, shownLine, lineAt, linesBelow}
+use Rattle.labels.specs.Names.{nameShown}
+use Rattle.listing.specs.Lines.{pidText, stateLabelled, nameText, shownLine, lineAt, linesBelow}
 
 -- what a match that is past UNUSED says
 pub used : (s : ProcState) → OneOf (1 ∷ 2 ∷ 3 ∷ 4 ∷ 5 ∷ []) (tagOf state.the-type s) → eqb 0 (stateCode s) ≡ false

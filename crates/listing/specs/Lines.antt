@@ -1,13 +1,14 @@
 -- The listing, piece by piece.
 use Prim.Native.Nat.{ℕ}
 use mathlib.Core.Bool.{cond}
-use mathlib.Core.List.{List, [], _++_, map}
+use mathlib.Core.List.{List, [], _++_}
 use lib.ListN.{take}
 use Rattle.rules.specs.declared.ProcState.{ProcState}
 use Rattle.rules.specs.declared.ProcState.the-variants.{UNUSED}
 use Rattle.rules.specs.declared.Process.{Process}
 use Rattle.rules.specs.Model.{Table, is, at}
-use Rattle.rules.specs.Listing.{bytes, digits, stateText, upToZero, shown, lineOf, linesOf}
+use Rattle.rules.specs.Listing.{bytes, digits, stateText, lineOf, linesOf}
+use Rattle.labels.specs.Names.{nameShown}
 
 -- the three pieces of a line
 unfoldable pub pidText : ℕ → List ℕ
@@ -15,9 +16,6 @@ pidText n = bytes "pid: " ++ digits n
 
 unfoldable pub stateLabelled : ProcState → List ℕ
 stateLabelled s = bytes " state: " ++ stateText s
-
-unfoldable pub nameShown : List ℕ → List ℕ
-nameShown name = map shown (upToZero name)
 
 unfoldable pub nameText : List ℕ → List ℕ
 nameText name = bytes " name: " ++ nameShown name ++ bytes "\n"

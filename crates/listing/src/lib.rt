@@ -9,9 +9,6 @@ use rules::Refusal;
 use rules::Room;
 use words::Table;
 
-pub mod digits; // a number in decimal
-pub mod state; // a state's name
-pub mod name; // a slot's name
 mod line; // a slot's line
 
 fn text_len(t: &[u64; Table::WORDS]) -> usize

@@ -6,7 +6,7 @@ ghost use lib.ListN.{length};
 ghost use Rattle.rules.specs.Listing.{digits};
 ghost use Rattle.buffers.specs.Text.{Wrote};
 ghost use Rattle.pieces.specs.Pieces.{signedDigits, flagText, placeText, hexDigit, hexText};
-use listing::digits;
+use labels::digits;
 use rules::Parent;
 
 fn write_number(out: &mut [u8], at: usize, n: u64) -> usize

@@ -22,9 +22,6 @@ module _ {A : Type 0} (test : A → Bool) (l : List A) (d : A) (i : ℕ) where
   unfolding firstFrom
   scan-more b e = rw (drop-cons l i d b, add-one) (rw (e, firstFrom))
 
-  pub scan-next : (j : ℕ) → j ≡ i + 1 → i < length l → test (getD l i d) ≡ false → firstFrom test (drop i l) i ≡ firstFrom test (drop j l) j
-  scan-next j z b e = rw z (scan-more b e)
-
   pub scan-none : length l ≤ i → firstFrom test (drop i l) i ≡ none
   unfolding firstFrom
   scan-none b = rw (drop-of-length-le l b)

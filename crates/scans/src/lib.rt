@@ -122,22 +122,12 @@ fn pass(t: &[u64; Table::WORDS], test: Test, i: usize) -> bool
     }
 }
 
-// Four slots a turn, since not every compiler unrolls the loop.
 pub fn find(t: &[u64; Table::WORDS], test: Test) -> Found
     ensures { λ r. ⌜ (asOption r ≡ lowest (passes test) (tableOf (now (t .entry)) .core .slots)) × InRange r ⌝ }
 {
-    for b in 0..Table::SLOTS / 4 {
-        if pass(t, test, 4 * b) {
-            return Found::At(4 * b);
-        }
-        if pass(t, test, 4 * b + 1) {
-            return Found::At(4 * b + 1);
-        }
-        if pass(t, test, 4 * b + 2) {
-            return Found::At(4 * b + 2);
-        }
-        if pass(t, test, 4 * b + 3) {
-            return Found::At(4 * b + 3);
+    for i in 0..Table::SLOTS {
+        if pass(t, test, i) {
+            return Found::At(i);
         }
     }
     Found::Nothing

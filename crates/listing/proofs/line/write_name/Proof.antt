@@ -7,7 +7,8 @@ use lib.Seq.{length-take-le}
 use borrow.Author.Needs.{needs}
 use Rattle.rules.specs.Listing.{bytes}
 use Rattle.words.specs.Reading.{bytesOf}
-use Rattle.listing.specs.Lines.{nameShown, nameText}
+use Rattle.labels.specs.Names.{nameShown}
+use Rattle.listing.specs.Lines.{nameText}
 use Rattle.buffers.proofs.TextLaws.{fits-next, three-next, wrote-more}
 use Rattle.listing.proofs.line.write_name.Statement.{statement}
 use Rattle.listing.proofs.line.write_name.Tie as tie

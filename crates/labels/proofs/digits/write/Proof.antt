@@ -5,8 +5,8 @@ use lib.ListN.{length, take, drop}
 use borrow.Author.Needs.{needs}
 use Rattle.rules.specs.Listing.{digits}
 use Rattle.buffers.proofs.TextLaws.{part-from}
-use Rattle.listing.proofs.digits.write.Statement.{statement}
-use Rattle.listing.proofs.digits.write.Tie as tie
+use Rattle.labels.proofs.digits.write.Statement.{statement}
+use Rattle.labels.proofs.digits.write.Tie as tie
 
 long : (c : tie.After-decimal) → length (c .decimal .result .bytes) ≡ 20
 long c = search needs

@@ -1,7 +1,7 @@
 use native.Mathlib.Omega.{arith}
-use Rattle.listing.proofs.DigitLaws.{Left, left-start, left-room, left-more, left-last}
-use Rattle.listing.proofs.digits.decimal.Statement.{statement}
-use Rattle.listing.proofs.digits.decimal.Tie as tie
+use Rattle.labels.proofs.DigitLaws.{Left, left-start, left-room, left-more, left-last}
+use Rattle.labels.proofs.digits.decimal.Statement.{statement}
+use Rattle.labels.proofs.digits.decimal.Tie as tie
 
 abbrev Inv-loop : tie.InvT-loop
 Inv-loop n bytes₀ from₀ rest₀ bytes from rest = Left n bytes from rest

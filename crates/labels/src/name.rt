@@ -5,7 +5,7 @@ ghost use Prim.Native.Nat.{_≤_};
 ghost use lib.ListN.{take};
 ghost use Rattle.rules.specs.Listing.{shown};
 ghost use Rattle.words.specs.Reading.{bytesOf};
-ghost use Rattle.listing.specs.Lines.{nameShown};
+ghost use Rattle.labels.specs.Names.{nameShown};
 
 pub struct Name {
     pub bytes: [u8; 16],

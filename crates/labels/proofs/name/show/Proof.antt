@@ -1,8 +1,8 @@
 use native.Mathlib.Omega.{arith}
 use borrow.Author.Tests.{le-leb, lt-leb}
 use Rattle.rules.specs.Listing.{shown}
-use Rattle.listing.proofs.name.show.Statement.{statement}
-use Rattle.listing.proofs.name.show.Tie as tie
+use Rattle.labels.proofs.name.show.Statement.{statement}
+use Rattle.labels.proofs.name.show.Tie as tie
 
 returns : tie.Need-returns
 unfolding shown

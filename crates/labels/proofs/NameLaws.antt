@@ -9,7 +9,7 @@ use lib.Seq.{length-take-le, take-suc, drop-cons, take-at, set-at, getD-at, appe
 use borrow.Author.Tests.{eq-eqb, ne-eqb}
 use Rattle.rules.specs.Listing.{upToZero, shown}
 use Rattle.words.specs.Reading.{tabFrom, tab, bytesOf}
-use Rattle.listing.specs.Lines.{nameShown}
+use Rattle.labels.specs.Names.{nameShown}
 
 pub name-length : (a b : ℕ) → length (bytesOf a ++ bytesOf b) ≡ 16
 unfolding bytesOf tab tabFrom

@@ -3,9 +3,9 @@ use native.Mathlib.Omega.{arith}
 use mathlib.Core.List.{_++_}
 use borrow.Author.Needs.{needs}
 use Rattle.words.specs.Reading.{bytesOf}
-use Rattle.listing.proofs.NameLaws.{Shown, name-length, shown-start, shown-more, shown-zero, shown-all}
-use Rattle.listing.proofs.name.shown_name.Statement.{statement}
-use Rattle.listing.proofs.name.shown_name.Tie as tie
+use Rattle.labels.proofs.NameLaws.{Shown, name-length, shown-start, shown-more, shown-zero, shown-all}
+use Rattle.labels.proofs.name.shown_name.Statement.{statement}
+use Rattle.labels.proofs.name.shown_name.Tie as tie
 
 abbrev Inv-loop : tie.InvT-loop
 Inv-loop a b bytes₀ len₀ bytes len = Shown (bytesOf a ++ bytesOf b) bytes len

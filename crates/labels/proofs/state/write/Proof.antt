@@ -1,7 +1,7 @@
 use borrow.Author.Needs.{needs}
 use Rattle.rules.specs.Listing.{bytes, stateText}
-use Rattle.listing.proofs.state.write.Statement.{statement}
-use Rattle.listing.proofs.state.write.Tie as tie
+use Rattle.labels.proofs.state.write.Statement.{statement}
+use Rattle.labels.proofs.state.write.Tie as tie
 
 enum-told : tie.Need-enum-told
 enum-told c = search needs

@@ -1,8 +1,8 @@
 use native.Mathlib.Nat.{div-one}
 use borrow.Author.Needs.{needs}
 use Rattle.words.specs.Reading.{bytesOf, tab, tabFrom}
-use Rattle.listing.proofs.name.unpack.Statement.{statement}
-use Rattle.listing.proofs.name.unpack.Tie as tie
+use Rattle.labels.proofs.name.unpack.Statement.{statement}
+use Rattle.labels.proofs.name.unpack.Tie as tie
 
 cast-t4 : tie.Need-cast-t4
 cast-t4 c = search needs

@@ -1,0 +1,2 @@
+mod DigitLaws
+mod NameLaws
