@@ -10,7 +10,7 @@ const REAPED: u64 = 3;
 const JOINED: u64 = 4;
 const BLOCKED: u64 = 5;
 const REFUSED: u64 = 6;
-/// A text's length (`roomWords` in crates/anwalghid/specs/Exports.antt).
+/// A text's length (`roomWords` in crates/sights/specs/Sights.antt).
 const LISTED: u64 = 7;
 
 pub struct Answer(pub [u64; 3]);

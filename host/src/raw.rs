@@ -12,7 +12,7 @@ type Row = [u64; WORDS];
 
 type Said = [u64; 3];
 
-/// `WORDS` in crates/anwalghid/src/sight.rt.
+/// `WORDS` in crates/sights/src/slot.rt.
 pub type Sight = [u64; 10];
 
 /// The codes of crates/anwalghid/src/lib.rt. The third, 1, is for any number of tables but one.

@@ -84,7 +84,7 @@ fn place(word: u64) -> Option<usize> {
 }
 
 impl SlotView {
-    /// `slotWords` in crates/anwalghid/specs/Sight.antt.
+    /// `slotWords` in crates/sights/specs/Sights.antt.
     #[inline]
     pub(crate) fn of(words: Sight) -> SlotView {
         let [state, channel, killed, status, pid, queued, group, parent, thread, system] = words;

@@ -1,3 +1,1 @@
 mod ExportLaws
-mod TableLaws
-mod SightLaws

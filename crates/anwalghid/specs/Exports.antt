@@ -1,104 +1,88 @@
--- What an exported call leaves behind: a code, the lent tables, and three words for its answer.
+-- What an exported function leaves behind: a code, the lent tables, and what was lent beside them.
 use Prim.Native.Nat.{ℕ}
-use mathlib.Core.Path.{_≡_}
+use mathlib.Core.Path.{_≡_, sym, ap, _∙_}
+use mathlib.Core.Logic.{_≢_}
 use mathlib.Core.Bool.{Bool, cond}
-use mathlib.Core.Option.{Option, none, some}
+use mathlib.Core.Option.{Option, none, some, Option·map}
 use mathlib.Core.List.{List, [], _∷_, map}
 use lib.ListN.{length}
-use lib.Dec.{ltb}
-use Rattle.rules.specs.declared.Room.{Room}
-use Rattle.rules.specs.declared.Room.the-variants.{Fits, Short}
-use Rattle.rules.specs.declared.Refusal.the-variants.{NoRoom}
-use Rattle.rules.specs.declared.Answer.the-variants.{Refused}
-use Rattle.rules.specs.Model.{Table, fresh}
+use Rattle.rules.specs.Model.{Table, fresh, at}
 use Rattle.rules.specs.Listing.{roomFor, listedBuffer}
 use Rattle.rules.specs.Runs.{Call, step}
 use Rattle.promises.specs.Order.Sound.{Sound}
 use Rattle.words.specs.Reading.{tableOf}
-use Rattle.buffers.specs.Text.{put}
-use Rattle.shows.specs.Shows.{showText, showTop}
 use Rattle.answers.specs.Words.{coded}
+use Rattle.sights.specs.Sights.{roomWords, showRoom, showBuffer, slotWords}
 
--- the call that the arguments make, or none where one is outside its range
-unfoldable pub allowed : Bool → Call → Option Call
-allowed b c = cond b (some c) none
-
-pub record Export : Type 0 where
+pub record After (A : Type 0) : Type 0 where
   pub code : ℕ
   pub tables : List Table
-  pub answer : List ℕ
+  pub lent : A
 
--- 0: one table was lent, and the call was made; 1: another number of tables
-unfoldable pub codeFor : List (List ℕ) → ℕ
-codeFor (w ∷ []) = 0
-codeFor [] = 1
-codeFor (w ∷ v ∷ l) = 1
+-- nothing is touched
+unfoldable pub kept : {A : Type 0} → ℕ → List Table → A → After A
+kept code ts a = record { code = code; tables = ts; lent = a }
 
--- 0: answered; 1: not one table was lent; 2: an argument is outside its range
-unfoldable pub exported : Option Call → List Table → List ℕ → Export
-exported (some c) (t ∷ []) b = record { code = 0; tables = step t c .table ∷ []; answer = put b 0 (coded (step t c .answer)) }
-exported none (t ∷ []) b = record { code = 2; tables = t ∷ []; answer = b }
-exported c [] b = record { code = 1; tables = []; answer = b }
-exported c (t ∷ u ∷ l) b = record { code = 1; tables = t ∷ u ∷ l; answer = b }
+-- 0: f was done on the table; 2: there is no f, as an argument is outside its range
+unfoldable pub done : {A : Type 0} → Option (Table → Table × A) → Table → A → After A
+done (some f) t a = record { code = 0; tables = f t .0 ∷ []; lent = f t .1 }
+done none t a = kept 2 (t ∷ []) a
 
--- each table is in order
+-- 1: not one table was lent
+unfoldable pub onOne : {A : Type 0} → Option (Table → Table × A) → List Table → A → After A
+onOne f (t ∷ []) a = done f t a
+onOne f [] a = kept 1 [] a
+onOne f (t ∷ u ∷ l) a = kept 1 (t ∷ u ∷ l) a
+
+pub record Leaves {A : Type 0} (f : Option (Table → Table × A)) (ts : List (List ℕ)) (a : A) (code : ℕ) (us : List (List ℕ)) (d : A) : Type 0 where
+  pub after : record { code = code; tables = map tableOf us; lent = d } ≡ onOne f (map tableOf ts) a
+  -- not a word of them, whatever they hold
+  pub untouched : code ≢ 0 → us ≡ ts
+
+-- no second outcome: two that meet the contract on one input are the same
+pub leaves-once : {A : Type 0} (f : Option (Table → Table × A)) (ts : List (List ℕ)) (a : A) {d e : A} {m n : ℕ} (us vs : List (List ℕ)) → Leaves f ts a m us d → Leaves f ts a n vs e → (m ≡ n) × (map tableOf us ≡ map tableOf vs) × (d ≡ e)
+leaves-once {A = A} f ts a us vs p q =
+    (ap (λ (x : After A). x .code) (p .after ∙ sym (q .after)), ap (λ (x : After A). x .tables) (p .after ∙ sym (q .after)), ap (λ (x : After A). x .lent) (p .after ∙ sym (q .after)))
+
+-- none where an argument is outside its range
+unfoldable pub allowed : {F : Type 0} → Bool → F → Option F
+allowed b f = cond b (some f) none
+
+-- the one table is in order; of another number nothing is asked
 unfoldable pub InOrder : List (List ℕ) → Type 0
+InOrder (w ∷ []) = Sound (tableOf w)
 InOrder [] = Unit {0}
-InOrder (w ∷ l) = Sound (tableOf w) × InOrder l
-
-pub record Exported (c : Option Call) (ts : List (List ℕ)) (b : List ℕ) (code : ℕ) (us : List (List ℕ)) (d : List ℕ) : Type 0 where
-  pub told : code ≡ exported c (map tableOf ts) b .code
-  pub tables : map tableOf us ≡ exported c (map tableOf ts) b .tables
-  pub answer : d ≡ exported c (map tableOf ts) b .answer
-  pub sound : InOrder us
+InOrder (w ∷ v ∷ l) = Unit {0}
 
 -- ---- a fresh table
-unfoldable pub renewed : List Table → List Table
-renewed (t ∷ []) = fresh ∷ []
-renewed [] = []
-renewed (t ∷ u ∷ l) = t ∷ u ∷ l
+unfoldable pub renewed : Table → Table × Unit {0}
+renewed t = (fresh, tt)
 
 pub record Renewed (ts : List (List ℕ)) (code : ℕ) (us : List (List ℕ)) : Type 0 where
-  pub told : code ≡ codeFor ts
-  pub tables : map tableOf us ≡ renewed (map tableOf ts)
-  pub sound : length ts ≡ 1 → InOrder us
+  pub leaves : Leaves (some renewed) ts tt code us tt
+  pub sound : code ≡ 0 → InOrder us
 
--- ---- the listing: 7 and its length, or why not
-unfoldable pub roomWords : Room → List ℕ
-roomWords (Fits n) = 7 ∷ n ∷ 0 ∷ []
-roomWords (Short why) = coded (Refused why)
+-- ---- a call, and its answer in three words
+unfoldable pub called : Call → Table → Table × List ℕ
+called c t = (step t c .table, coded (step t c .answer))
 
-pub record Dump : Type 0 where
-  pub buffer : List ℕ
-  pub answer : List ℕ
+pub record Exported (c : Option Call) (ts : List (List ℕ)) (a : List ℕ) (code : ℕ) (us : List (List ℕ)) (d : List ℕ) : Type 0 where
+  pub leaves : Leaves (Option·map called c) ts a code us d
+  pub sound : InOrder us
 
-unfoldable pub dumped : List Table → List ℕ → List ℕ → Dump
-dumped (t ∷ []) b a = record { buffer = listedBuffer t b; answer = put a 0 (roomWords (roomFor t (length b))) }
-dumped [] b a = record { buffer = b; answer = a }
-dumped (t ∷ u ∷ l) b a = record { buffer = b; answer = a }
+-- ---- a look, and the table as it was
+unfoldable pub looked : {A : Type 0} → (Table → A) → Table → Table × A
+looked f t = (t, f t)
 
-pub record Dumped (ts : List (List ℕ)) (b a : List ℕ) (code : ℕ) (c d : List ℕ) : Type 0 where
-  pub told : code ≡ codeFor ts
-  pub buffer : c ≡ dumped (map tableOf ts) b a .buffer
-  pub answer : d ≡ dumped (map tableOf ts) b a .answer
+pub record Seen {A : Type 0} (f : Option (Table → A)) (ts : List (List ℕ)) (a : A) (code : ℕ) (d : A) : Type 0 where
+  pub leaves : Leaves (Option·map looked f) ts a code ts d
 
--- ---- the whole table as text, in a buffer with room for any table's
-unfoldable pub shown : Table → List ℕ → List ℕ → Dump
-shown t b a = cond (ltb (length b) showTop)
-    (record { buffer = b; answer = put a 0 (roomWords (Short NoRoom)) })
-    (record { buffer = put b 0 (showText t); answer = put a 0 (roomWords (Fits (length (showText t)))) })
+-- a text in the lent buffer, and three words that tell its length
+unfoldable pub listed : List ℕ → Table → List ℕ × List ℕ
+listed b t = (listedBuffer t b, roomWords (roomFor t (length b)))
 
-pub record Showed (t : Table) (b a c d : List ℕ) : Type 0 where
-  pub buffer : c ≡ shown t b a .buffer
-  pub answer : d ≡ shown t b a .answer
+unfoldable pub shown : List ℕ → Table → List ℕ × List ℕ
+shown b t = (showBuffer t b, roomWords (showRoom t (length b)))
 
--- where there is one table
-unfoldable pub shownIn : List Table → List ℕ → List ℕ → Dump
-shownIn (t ∷ []) b a = shown t b a
-shownIn [] b a = record { buffer = b; answer = a }
-shownIn (t ∷ u ∷ l) b a = record { buffer = b; answer = a }
-
-pub record Shown (ts : List (List ℕ)) (b a : List ℕ) (code : ℕ) (c d : List ℕ) : Type 0 where
-  pub told : code ≡ codeFor ts
-  pub buffer : c ≡ shownIn (map tableOf ts) b a .buffer
-  pub answer : d ≡ shownIn (map tableOf ts) b a .answer
+unfoldable pub slotSeen : ℕ → Table → List ℕ
+slotSeen s t = slotWords (at (t .core) s)

@@ -23,7 +23,7 @@ pub extern "C" fn anwalghid_user_init(
         return NOT_ONE_TABLE;
     }
     let a = births::user_init(&mut tables[0]);
-    answers::write(answer, 0, a);
+    *answer = sights::words_of(a);
     ANSWERED
 }
 
@@ -39,7 +39,7 @@ pub extern "C" fn anwalghid_start_init_process(
         return NOT_ONE_TABLE;
     }
     let a = births::start_init_process(&mut tables[0]);
-    answers::write(answer, 0, a);
+    *answer = sights::words_of(a);
     ANSWERED
 }
 
@@ -57,7 +57,7 @@ pub extern "C" fn anwalghid_spawn_system_thread(
         return NOT_ONE_TABLE;
     }
     let a = births::spawn_system_thread(&mut tables[0], name, entry);
-    answers::write(answer, 0, a);
+    *answer = sights::words_of(a);
     ANSWERED
 }
 
@@ -74,7 +74,7 @@ pub extern "C" fn anwalghid_free_system_thread(
         return NOT_ONE_TABLE;
     }
     let a = births::free_system_thread(&mut tables[0], hart);
-    answers::write(answer, 0, a);
+    *answer = sights::words_of(a);
     ANSWERED
 }
 
@@ -95,7 +95,7 @@ pub extern "C" fn anwalghid_fork(
         return OUT_OF_RANGE;
     }
     let a = forks::fork(&mut tables[0], hart, memory == 1);
-    answers::write(answer, 0, a);
+    *answer = sights::words_of(a);
     ANSWERED
 }
 
@@ -126,7 +126,7 @@ pub extern "C" fn anwalghid_create_user_thread(
         ret,
     };
     let a = forks::create_user_thread(&mut tables[0], hart, ask, codes::mapped_of(mapped));
-    answers::write(answer, 0, a);
+    *answer = sights::words_of(a);
     ANSWERED
 }
 
@@ -143,7 +143,7 @@ pub extern "C" fn anwalghid_dequeue_runnable(
         return NOT_ONE_TABLE;
     }
     let a = sched::dequeue_runnable(&mut tables[0], hart);
-    answers::write(answer, 0, a);
+    *answer = sights::words_of(a);
     ANSWERED
 }
 
@@ -160,7 +160,7 @@ pub extern "C" fn anwalghid_yielding(
         return NOT_ONE_TABLE;
     }
     let a = sched::yielding(&mut tables[0], hart);
-    answers::write(answer, 0, a);
+    *answer = sights::words_of(a);
     ANSWERED
 }
 
@@ -178,7 +178,7 @@ pub extern "C" fn anwalghid_sleep(
         return NOT_ONE_TABLE;
     }
     let a = sched::sleep(&mut tables[0], hart, channel);
-    answers::write(answer, 0, a);
+    *answer = sights::words_of(a);
     ANSWERED
 }
 
@@ -195,7 +195,7 @@ pub extern "C" fn anwalghid_wake_up(
         return NOT_ONE_TABLE;
     }
     let a = sched::wake_up(&mut tables[0], channel);
-    answers::write(answer, 0, a);
+    *answer = sights::words_of(a);
     ANSWERED
 }
 
@@ -212,7 +212,7 @@ pub extern "C" fn anwalghid_kill(
         return NOT_ONE_TABLE;
     }
     let a = sched::kill(&mut tables[0], Pid(p));
-    answers::write(answer, 0, a);
+    *answer = sights::words_of(a);
     ANSWERED
 }
 
@@ -233,7 +233,7 @@ pub extern "C" fn anwalghid_wait(
         return OUT_OF_RANGE;
     }
     let a = waits::wait(&mut tables[0], hart, codes::wish_of(wish));
-    answers::write(answer, 0, a);
+    *answer = sights::words_of(a);
     ANSWERED
 }
 
@@ -255,7 +255,7 @@ pub extern "C" fn anwalghid_join_user_thread(
         return OUT_OF_RANGE;
     }
     let a = waits::join_user_thread(&mut tables[0], hart, Pid(p), codes::wish_of(wish));
-    answers::write(answer, 0, a);
+    *answer = sights::words_of(a);
     ANSWERED
 }
 
@@ -273,7 +273,7 @@ pub extern "C" fn anwalghid_thread_exit(
         return NOT_ONE_TABLE;
     }
     let a = ends::thread_exit(&mut tables[0], hart, status);
-    answers::write(answer, 0, a);
+    *answer = sights::words_of(a);
     ANSWERED
 }
 
@@ -291,7 +291,7 @@ pub extern "C" fn anwalghid_exit(
         return NOT_ONE_TABLE;
     }
     let a = ends::exit(&mut tables[0], hart, status);
-    answers::write(answer, 0, a);
+    *answer = sights::words_of(a);
     ANSWERED
 }
 
@@ -313,6 +313,6 @@ pub extern "C" fn anwalghid_grow_proc(
         return OUT_OF_RANGE;
     }
     let a = growth::grow_proc(&mut tables[0], hart, count, memory == 1);
-    answers::write(answer, 0, a);
+    *answer = sights::words_of(a);
     ANSWERED
 }

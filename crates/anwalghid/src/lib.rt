@@ -1,7 +1,6 @@
 // The table for C and Rust to link, over lent tables: a slice that must hold one.
 mod calls; // each call, its answer in three words
-mod tables; // a fresh table, and the listing
-mod sight; // a slot in ten words
+mod tables; // a fresh table, and what is seen of one: the listing, its text, a slot
 
 const ANSWERED: u64 = 0;
 

@@ -26,17 +26,13 @@ use Rattle.promises.specs.Order.States.{quiet}
 use Rattle.promises.specs.Order.Room.{queue-room}
 use Rattle.promises.specs.Order.Chains.{onCore}
 use Rattle.promises.specs.Did.{Makes}
-use Rattle.words.specs.Reading.{startOf, bytesOf, tab, tabFrom}
+use Rattle.words.specs.Reading.{startOf, bytesOf}
 use Rattle.words.specs.Effects.{onBooks, withInit}
 use Rattle.taking.specs.declared.Got.the-variants.{No, Is}
 use Rattle.taking.specs.Parts.{callerOf, takenOf, afterTake}
 use Rattle.taking.proofs.Facts.{turned-down, given, moved, if-so, if-not, hart-no, hart-is, take-no, take-is}
 
 -- ---- boot
-init-name : bytesOf 7308604897319546473 ++ bytesOf 0 ≡ initName
-unfolding bytesOf tab tabFrom initName padded nameSize
-init-name = refl
-
 module _ (t : Table) where
   pub boot-known : {s : Slot} → t .books .init ≡ Of s → Makes (step t boot) (Refused InitOutOfTurn) t
   unfolding step booted
@@ -51,16 +47,16 @@ module _ (t : Table) where
     unfolding step booted
     boot-is z f m = if-not _ t (ap known e) (take-is t bootedIn z f m)
 
-  pub init-law : (s n g p : ℕ) {u : Table} → n ≡ t .books .pids → g ≡ newGroup (t .books) → p ≡ userSp s
+  pub init-law : (s n g p low high : ℕ) {u : Table} → n ≡ t .books .pids → g ≡ newGroup (t .books) → p ≡ userSp s → bytesOf low ++ bytesOf high ≡ initName
       → u ≡ onBooks (withInit (Of (slot s))) (onBooks (setGroup g (record { size = 4096; count = 1 })) (onCore (fill s (taken n
       (record { group = In g; parent = Nobody; thread = false; system = false })
-      (startOf (record { below = 0; sp = p; entry = 0; top = 4 * 4096; arg = 0; ret = 0; name0 = 7308604897319546473; name1 = 0 })))) t))
+      (startOf (record { below = 0; sp = p; entry = 0; top = 4 * 4096; arg = 0; ret = 0; name0 = low; name1 = high })))) t))
       → Makes (bootedIn s t) (Made (pid n)) u
   unfolding bootedIn madeIn initIn openGroup setInit onCore onBooks withInit initSize initTop pageSize trapframe trampoline
-  init-law s n g p en eg ep f = given (ap (λ (m : ℕ). Made (pid m)) en) (f ∙ λ i. record {
+  init-law s n g p low high en eg ep e f = given (ap (λ (m : ℕ). Made (pid m)) en) (f ∙ λ i. record {
     core = fill s (taken (en i)
         (record { group = In (eg i); parent = Nobody; thread = false; system = false })
-        (record { trapframe = trapframe; sp = ep i; entry = 0; top = initTop; arg = 0; ret = 0; name = init-name i })) (t .core);
+        (record { trapframe = trapframe; sp = ep i; entry = 0; top = initTop; arg = 0; ret = 0; name = e i })) (t .core);
     books = setInit s (setGroup (eg i) (record { size = initSize; count = 1 }) (t .books));
   })
 

@@ -22,9 +22,6 @@ use words::book;
 use words::slot;
 use words::slot::StartWords;
 
-// `initname`, the lowest byte first.
-const INIT_NAME: u64 = 7308604897319546473;
-
 const NAME_SIZE: usize = 16;
 
 fn boot_in(t: &mut [u64; Table::WORDS], s: usize) -> Answer
@@ -33,6 +30,7 @@ fn boot_in(t: &mut [u64; Table::WORDS], s: usize) -> Answer
 {
     let n = book::pids(t);
     let g = scans::new_group(t);
+    let name = names::pack(b"initname");
     let k = Kin {
         group: Member::In(g),
         parent: Parent::Nobody,
@@ -46,8 +44,8 @@ fn boot_in(t: &mut [u64; Table::WORDS], s: usize) -> Answer
         top: 4 * stacks::PAGE,
         arg: 0,
         ret: 0,
-        name0: INIT_NAME,
-        name1: 0,
+        name0: name.low,
+        name1: name.high,
     };
     taking::fill(t, s, n, k, b);
     book::set_group(
@@ -132,7 +130,7 @@ pub fn spawn_system_thread(t: &mut [u64; Table::WORDS], name: &[u8], entry: u64)
     }
 }
 
-// Its return frees the slot at once.
+// A system thread's return frees its slot at once.
 fn return_by(t: &mut [u64; Table::WORDS], h: usize, s: usize) -> Answer
     requires { ⌜ (h < hartCount) × (s < slotCount) ⌝ }
     ensures { λ r. ⌜ Makes (systemReturnedBy (tableOf (now (t .entry))) h s) r (tableOf (now (t .exit))) ⌝ }

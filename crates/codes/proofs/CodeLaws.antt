@@ -10,7 +10,7 @@ use lib.IntN.{ℤ, pos, negsuc, _-ℤ_}
 use mir.Syntax.{w64}
 use mir.Val.{Fits, SFits, toZ, sel}
 use mir.Facts.{toZ-pos, sfits-toZ}
-use borrow.Author.Tests.{le-ltb, ltb-true, ltb-false}
+use borrow.Author.Tests.{le-ltb}
 use Rattle.promises.specs.Laws.Signs.{minus}
 use Rattle.steps.specs.declared.Call.{Call}
 use Rattle.codes.specs.Codes.{signedOf, calls, callNumbered}
@@ -34,11 +34,7 @@ signed-high n b = let y : ℕ = 2 ^ 64 - 1 - n in let e : y ≡ 2 ^ 64 - suc n =
 
 -- ---- a call's number
 pub past : {n k : ℕ} → n ≤ k → (k ≡ n → ⊥) → suc n ≤ k
-past {n} {k} l d = go (ltb n k) refl
-  where
-    go : (b : Bool) → ltb n k ≡ b → suc n ≤ k
-    go true e = omega (arith, ltb-true n k e)
-    go false e = absurd (d (omega (arith, ltb-false n k e)))
+past l d = omega arith
 
 pub numbered-none : (n : ℕ) (w : ℕ → ℕ) → 16 ≤ n → none ≡ callNumbered n w
 unfolding callNumbered calls

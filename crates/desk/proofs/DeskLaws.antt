@@ -1,14 +1,14 @@
 -- A line's answer, by what the line means.
-use Prim.Native.Nat.{ℕ, zero, suc, _+_, _*_, _≤_, _<_}
+use Prim.Native.Nat.{ℕ, _+_, _≤_}
 use native.Mathlib.Omega.{arith}
 use mathlib.Core.Path.{_≡_, refl, sym, ap, _∙_}
-use mathlib.Core.List.{List, _++_}
+use mathlib.Core.List.{List}
 use lib.ListN.{length}
 use Rattle.rules.specs.declared.Refusal.{Refusal}
 use Rattle.rules.specs.declared.Refusal.the-variants.{NoRoom}
 use Rattle.rules.specs.declared.Answer.the-variants.{Done, Refused}
 use Rattle.rules.specs.declared.Room.the-variants.{Fits, Short}
-use Rattle.rules.specs.Sizes.{slotCount, nameSize, lineTop, listingTop}
+use Rattle.rules.specs.Sizes.{nameSize, lineTop, listingTop}
 use Rattle.rules.specs.Listing.{listing, roomFor}
 use Rattle.promises.specs.Order.Sound.{Sound}
 use Rattle.promises.specs.ListingBound.{listing-short}
@@ -16,11 +16,11 @@ use Rattle.listing.proofs.RoomLaws.{fits-told, short-told}
 use Rattle.rules.specs.Model.{Table, fresh}
 use Rattle.rules.specs.Runs.{Call}
 use Rattle.buffers.specs.Text.{Wrote}
-use Rattle.buffers.proofs.TextLaws.{wrote-none, wrote-long, wrote-more}
+use Rattle.buffers.proofs.TextLaws.{wrote-none}
 use Rattle.texts.specs.Texts.{answerText, answerTop}
 use Rattle.shows.specs.Shows.{showText}
 use Rattle.desk.specs.Desk.{misreadText, tableAfter, textFor, misreadTop, deskTop, Performed, Answered}
-use Rattle.lines.specs.Meaning.{Meaning, passed, called, listed, shows, renews, misread, saidOf}
+use Rattle.lines.specs.Meaning.{Meaning, passed, called, listed, shows, renews, misread, meaningOf}
 use Rattle.lines.specs.declared.Why.{Why}
 use Rattle.lines.specs.declared.Said.{Said}
 
@@ -74,8 +74,8 @@ module _ (t : Table) (number : ℕ) (m : Meaning) (b : List ℕ) (at : ℕ) wher
     unfolding tableAfter textFor nameSize
     why-said why e w v h = answered-by (misread why) e refl w v (omega arith)
 
-pub said-is : (n : List ℕ) (r x : Said) {m : Meaning} → r ≡ x → saidOf n r ≡ m → saidOf n x ≡ m
-said-is n r x e f = sym (ap (saidOf n) e) ∙ f
+pub said-is : (n : List ℕ) (r x : Said) {m : Meaning} → r ≡ x → meaningOf n r ≡ m → meaningOf n x ≡ m
+said-is n r x e f = sym (ap (meaningOf n) e) ∙ f
 
 pub desk-room : (at : ℕ) {n : ℕ} → at + deskTop ≤ n → at + misreadTop ≤ n
 unfolding nameSize

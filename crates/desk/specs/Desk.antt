@@ -15,7 +15,7 @@ use Rattle.texts.specs.Texts.{answerText, answerTop}
 use Rattle.shows.specs.Shows.{showText, showTop}
 use Rattle.lines.specs.declared.Why.{Why}
 use Rattle.lines.specs.declared.Why.the-variants.{UnknownWord, TooFew, TooMany, NotANumber, TooLarge, NotAChoice, NotAName, TooLong}
-use Rattle.lines.specs.Meaning.{Meaning, passed, called, listed, shows, renews, misread, means}
+use Rattle.lines.specs.Meaning.{Meaning, passed, called, listed, shows, renews, misread}
 
 unfoldable pub whyText : Why → List ℕ
 whyText UnknownWord = bytes "unknown command"

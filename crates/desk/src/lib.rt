@@ -1,15 +1,13 @@
 // A line answered: what it does to the table, and the text that comes back.
-ghost use mathlib.Core.Path.{_≡_};
-ghost use mathlib.Core.List.{[]};
 ghost use Prim.Native.Nat.{_+_, _≤_};
 ghost use lib.ListN.{length};
 ghost use Rattle.rules.specs.declared.Answer.the-variants.{Done};
 ghost use Rattle.promises.specs.Order.Sound.{Sound};
 ghost use Rattle.words.specs.Reading.{tableOf};
 ghost use Rattle.buffers.specs.Text.{Wrote};
-ghost use Rattle.texts.specs.Texts.{answerText, answerTop};
-ghost use Rattle.steps.specs.Calls.{callOf};
-ghost use Rattle.lines.specs.Meaning.{means, misread, listed};
+ghost use Rattle.texts.specs.Texts.{answerTop};
+ghost use Rattle.steps.specs.ByValue.{callOf};
+ghost use Rattle.lines.specs.Meaning.{means, listed};
 ghost use Rattle.desk.specs.Desk.{whyText, misreadText, textFor, whyTop, misreadTop, deskTop, Performed, Answered};
 use lines::Said;
 use lines::Why;

@@ -1,5 +1,5 @@
 -- Each way through exit and thread exit, as the rules have it.
-use Prim.Native.Nat.{ℕ, _+_}
+use Prim.Native.Nat.{ℕ}
 use mathlib.Core.Path.{_≡_, ap, _∙_, subst}
 use mathlib.Core.Bool.{true, false}
 use mathlib.Core.Option.{Option, none, some}
@@ -26,7 +26,7 @@ use Rattle.scans.specs.declared.Test.the-variants.{ThreadOf}
 use Rattle.scans.specs.Tests.{passes, asOption}
 use Rattle.taking.specs.declared.Got.the-variants.{No, Is}
 use Rattle.taking.specs.Parts.{callerOf}
-use Rattle.taking.proofs.Facts.{own-channel, moved, if-so, if-not, hart-no, hart-is}
+use Rattle.taking.proofs.Facts.{moved, if-so, if-not, hart-no, hart-is}
 
 -- ---- the queue's order on the way
 pub reparent-queued : (t : Table) (s : ℕ) {u : Table} → u ≡ onCore (reparent (t .books .init) s) t → Queued (t .core) → Queued (u .core)
@@ -38,9 +38,9 @@ reaped-queued m t e w = rw e (chain-sound w (reapThreads-chain m t w) .queued)
 
 -- ---- the end of the caller s
 module _ (t : Table) (h x s : ℕ) where
-  pub thread-awaited : (i : ℕ) {u v : Table} → u ≡ onCore (slay i) t → v ≡ onCore (sleepOn h s (i + 1)) u → Makes (exitedPast t h x s (some i)) Blocked v
+  pub thread-awaited : (i : ℕ) {u v : Table} → u ≡ onCore (slay i) t → v ≡ onCore (sleepOn h s (ownChannel i)) u → Makes (exitedPast t h x s (some i)) Blocked v
   unfolding exitedPast onCore
-  thread-awaited i {u} e f = moved t (λ c. sleepOn h s (ownChannel i) (slay i c)) (f ∙ ap (λ (ch : ℕ). onCore (sleepOn h s ch) u) (own-channel i) ∙ ap (onCore (sleepOn h s (ownChannel i))) e)
+  thread-awaited i e f = moved t (λ c. sleepOn h s (ownChannel i) (slay i c)) (f ∙ ap (onCore (sleepOn h s (ownChannel i))) e)
 
   module _ {u : Table} (e : u ≡ onCore (reparent (t .books .init) s) t) {v w : Table} (g : w ≡ onCore (zombieOn h s x) v) where
     pub departed : {k : Kin} → k ≡ at (u .core) s .kin → v ≡ onCore (wakeOf (k .parent)) u → Makes (exitedPast t h x s none) Done w
@@ -48,10 +48,10 @@ module _ (t : Table) (h x s : ℕ) where
     departed f k = moved t (λ _. zombieOn h s x (departing t s)) (g ∙ ap (onCore (zombieOn h s x))
         (k ∙ ap (λ (k : Kin). onCore (wakeOf (k .parent)) u) f ∙ ap (onCore (λ c. wakeOf (at c s .kin .parent) c)) e))
 
-    pub thread-ended : v ≡ onCore (wake (s + 1)) u → Makes (threadEnded t h x s) Done w
+    pub thread-ended : v ≡ onCore (wake (ownChannel s)) u → Makes (threadEnded t h x s) Done w
     unfolding threadEnded onCore
     thread-ended k = moved t (λ c. zombieOn h s x (wake (ownChannel s) (reparent (t .books .init) s c))) (g ∙ ap (onCore (zombieOn h s x))
-        (k ∙ ap (λ (ch : ℕ). onCore (wake ch) u) (own-channel s) ∙ ap (onCore (wake (ownChannel s))) e))
+        (k ∙ ap (onCore (wake (ownChannel s))) e))
 
   pub leader-is : {m : Member} {u : Table} {r y : Found} {a : Answer} {w : Table} → m ≡ at (t .core) s .kin .group → u ≡ reapThreads m t
       → asOption r ≡ lowest (passes (ThreadOf m)) (u .core .slots) → y ≡ r → Makes (exitedPast u h x s (asOption y)) a w → Makes (leaderExited t h x s) a w

@@ -4,6 +4,7 @@ use native.Mathlib.Omega.{arith}
 use native.Mathlib.Numerals.{add-one}
 use mathlib.Core.Path.{_≡_, refl, sym, ap, _∙_}
 use mathlib.Core.Bool.{Bool, true, false}
+use mathlib.Core.Option.{Option, none, some}
 use lib.Dec.{leb}
 use borrow.Author.Tests.{leb-true, leb-false}
 use Rattle.rules.specs.declared.ProcState.the-variants.{ZOMBIE}
@@ -11,30 +12,35 @@ use Rattle.rules.specs.declared.Member.{Member}
 use Rattle.rules.specs.Sizes.{slotCount}
 use Rattle.rules.specs.Model.{Table, at, is}
 use Rattle.rules.specs.Moves.{sweep, lowest, reap}
-use Rattle.rules.specs.Calls.{reapIfZombie, reapFirst, reapThreads}
+use Rattle.rules.specs.Calls.{threadOf, reapIfZombie, reapFirst, reapThreads}
 use Rattle.scans.specs.declared.Found.{Found}
 use Rattle.scans.specs.declared.Found.the-variants.{At, Nothing}
 use Rattle.scans.specs.declared.Test.the-variants.{ThreadOf}
 use Rattle.scans.specs.Tests.{passes, asOption}
+use Rattle.ends.specs.Looks.{isZombie, firstIsZombie}
 
 -- ---- one look
 module _ (m : Member) (t : Table) (r : Found) (q : asOption r ≡ lowest (passes (ThreadOf m)) (t .core .slots)) where
-  looked : (x : Found) → x ≡ r → reapIfZombie t (asOption x) ≡ reapFirst m t
-  unfolding reapFirst passes
-  looked x z = ap (reapIfZombie t) (ap asOption z ∙ q)
+  -- u is the table after a look, b whether it reaped
+  abbrev Looked : Table → Bool → Type 0
+  Looked u b = (u ≡ reapFirst m t) × (b ≡ firstIsZombie m t)
 
-  pub look-none : Nothing ≡ r → t ≡ reapFirst m t
-  unfolding reapIfZombie
+  looked : (x : Found) → x ≡ r → Looked (reapIfZombie t (asOption x)) (isZombie t (asOption x))
+  unfolding reapFirst firstIsZombie passes
+  looked x z = (ap (reapIfZombie t) (ap asOption z ∙ q), ap (isZombie t) (ap asOption z ∙ q))
+
+  pub look-none : Nothing ≡ r → Looked t false
+  unfolding reapIfZombie isZombie
   look-none z = looked Nothing z
 
   module _ {i : ℕ} (z : At i ≡ r) where
-    pub look-live : is ZOMBIE (at (t .core) i) ≡ false → t ≡ reapFirst m t
-    unfolding reapIfZombie
+    pub look-live : is ZOMBIE (at (t .core) i) ≡ false → Looked t false
+    unfolding reapIfZombie isZombie
     look-live e = rw e at (looked (At i) z)
 
-    pub look-reaps : {u : Table} → is ZOMBIE (at (t .core) i) ≡ true → u ≡ reap i t → u ≡ reapFirst m t
-    unfolding reapIfZombie
-    look-reaps e f = f ∙ (rw e at (looked (At i) z))
+    pub look-reaps : {u : Table} → is ZOMBIE (at (t .core) i) ≡ true → u ≡ reap i t → Looked u true
+    unfolding reapIfZombie isZombie
+    look-reaps e f = let l = rw e at (looked (At i) z) in (f ∙ l .0, l .1)
 
 -- ---- look after look
 abbrev pub looks : Member → ℕ → Table → Table
@@ -62,6 +68,15 @@ still m t i (suc n) b e = go (leb i n) refl (λ r. still m t i n r e)
     go true f k = e ∙ ap (reapFirst m) (k (leb-true i n f))
     go false f k = let z : i ≡ suc n = omega (arith, leb-false i n f) in rw z
 
-pub looks-still : (m : Member) (t : Table) (i : ℕ) {a b : Table} → i ≤ slotCount → a ≡ looks m i t → b ≡ reapFirst m a → b ≡ a → b ≡ reapThreads m t
+-- .. and a look that finds no ZOMBIE changes nothing
+idle-look : (m : Member) (t : Table) → false ≡ firstIsZombie m t → reapFirst m t ≡ t
+unfolding reapFirst firstIsZombie
+idle-look m t e = go (lowest (threadOf m) (t .core .slots)) e
+  where
+    go : (o : Option ℕ) → false ≡ isZombie t o → reapIfZombie t o ≡ t
+    go none e = unfold reapIfZombie in refl
+    go (some i) e = unfold reapIfZombie isZombie in rw (sym e)
+
+pub looks-still : (m : Member) (t : Table) (i : ℕ) {a b : Table} → i ≤ slotCount → a ≡ looks m i t → b ≡ reapFirst m a → false ≡ firstIsZombie m a → b ≡ reapThreads m t
 unfolding reapThreads
-looks-still m t i {a} {b} r e f g = g ∙ e ∙ still m t i slotCount r (sym e ∙ sym g ∙ f ∙ ap (reapFirst m) e)
+looks-still m t i {a} r e f g = let h = idle-look m a g in f ∙ h ∙ e ∙ still m t i slotCount r (sym e ∙ sym h ∙ ap (reapFirst m) e)

@@ -1,6 +1,5 @@
 // Exit and thread exit.
 ghost use mathlib.Core.Path.{_≡_};
-ghost use mathlib.Core.Bool.{false};
 ghost use mathlib.Core.Option.{none, some};
 ghost use Prim.Native.Nat.{_<_};
 ghost use Rattle.rules.specs.Sizes.{slotCount, hartCount};
@@ -10,6 +9,7 @@ ghost use Rattle.rules.specs.Runs.{exit, threadExit};
 ghost use Rattle.promises.specs.Order.Sound.{Queued, Sound};
 ghost use Rattle.promises.specs.Did.{Makes, Did};
 ghost use Rattle.words.specs.Reading.{tableOf};
+ghost use Rattle.ends.specs.Looks.{firstIsZombie};
 use rules::Answer;
 use rules::Member;
 use rules::Parent;
@@ -25,7 +25,7 @@ use words::slot;
 // ---- the threads of a process
 // The lowest thread slot of the group, if ZOMBIE, is reaped; was one?
 fn reap_first(t: &mut [u64; Table::WORDS], m: Member) -> bool
-    ensures { λ r. ⌜ (tableOf (now (t .exit)) ≡ reapFirst m (tableOf (now (t .entry)))) × (r ≡ false → tableOf (now (t .exit)) ≡ tableOf (now (t .entry))) ⌝ }
+    ensures { λ r. ⌜ (tableOf (now (t .exit)) ≡ reapFirst m (tableOf (now (t .entry)))) × (r ≡ firstIsZombie m (tableOf (now (t .entry)))) ⌝ }
 {
     let Found::At(i) = scans::find(t, Test::ThreadOf(m)) else {
         return false;
@@ -53,7 +53,7 @@ fn await_thread(t: &mut [u64; Table::WORDS], h: usize, x: u64, s: usize, i: usiz
     ensures { λ r. ⌜ Makes (exitedPast (tableOf (now (t .entry))) h x s (some i)) r (tableOf (now (t .exit))) ⌝ }
 {
     wakes::slay(t, i);
-    moves::sleep_on(t, h, s, (i as u64) + 1);
+    moves::sleep_on(t, h, s, moves::own_channel(i));
     Answer::Blocked
 }
 
@@ -87,7 +87,7 @@ fn exit_thread(t: &mut [u64; Table::WORDS], h: usize, x: u64, s: usize) -> Answe
     ensures { λ r. ⌜ Makes (threadEnded (tableOf (now (t .entry))) h x s) r (tableOf (now (t .exit))) ⌝ }
 {
     wakes::reparent(t, s);
-    wakes::wake_up(t, (s as u64) + 1);
+    wakes::wake_up(t, moves::own_channel(s));
     moves::zombie_on(t, h, s, x);
     Answer::Done
 }

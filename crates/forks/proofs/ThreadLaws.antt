@@ -21,7 +21,7 @@ use Rattle.rules.specs.Model.{Table, at, groupAt, taken, pid, slot}
 use Rattle.rules.specs.Moves.{publish, joinGroup}
 use Rattle.rules.specs.Calls.{fill, publishNew, madeIn, wrongAsk, unmapped, leaderOf, threadIn, threadedIn, threadedBy, threaded}
 use Rattle.rules.specs.Runs.{step, thread}
-use Rattle.promises.specs.Laws.Lists.{or-left}
+use Rattle.promises.specs.Laws.Bools.{or-left}
 use Rattle.promises.specs.Order.Chains.{onCore}
 use Rattle.promises.specs.Did.{Makes}
 use Rattle.words.specs.Reading.{startOf, bytesOf}

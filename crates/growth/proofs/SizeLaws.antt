@@ -16,10 +16,6 @@ use Rattle.promises.specs.Laws.Signs.{again, down, less-is, more, more-is}
 
 -- ---- up
 module _ (size up : ℕ) where
-  pub raised-past : sizeTop < size → none ≡ within (pos size +ℤ pos up)
-  unfolding within
-  raised-past b = rw (lt-leb (size + up) sizeTop (omega arith))
-
   pub raised-far : sizeTop - size < up → none ≡ within (pos size +ℤ pos up)
   unfolding within
   raised-far b = rw (lt-leb (size + up) sizeTop (omega arith))
@@ -38,13 +34,9 @@ module _ (size less : ℕ) where
     left : size - suc less ≡ size - 1 - less
     left = omega arith
 
-    pub lowered-far : sizeTop < size - 1 - less → none ≡ within (pos size +ℤ negsuc less)
+    pub lowered-in : size ≤ sizeTop → some (size - 1 - less) ≡ within (pos size +ℤ negsuc less)
     unfolding within
-    lowered-far d = rw (le-ltb size (suc less) b, left, lt-leb (size - 1 - less) sizeTop d)
-
-    pub lowered-in : size - 1 - less ≤ sizeTop → some (size - 1 - less) ≡ within (pos size +ℤ negsuc less)
-    unfolding within
-    lowered-in d = rw (le-ltb size (suc less) b, left, le-leb (size - 1 - less) sizeTop d)
+    lowered-in d = rw (le-ltb size (suc less) b, left, le-leb (size - 1 - less) sizeTop (omega arith))
 
 -- ---- the count, by its sign
 over : (z : ℤ) → ltZ (pos 0) z ≡ upward z

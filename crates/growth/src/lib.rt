@@ -1,9 +1,9 @@
 // Grow: a group's size plus a signed count.
 ghost use mathlib.Core.Path.{_≡_};
 ghost use mathlib.Core.Bool.{not, _&&_};
-ghost use Prim.Native.Nat.{_<_};
+ghost use Prim.Native.Nat.{_<_, _≤_};
 ghost use lib.IntN.{pos, negsuc, _+ℤ_};
-ghost use Rattle.rules.specs.Sizes.{slotCount};
+ghost use Rattle.rules.specs.Sizes.{slotCount, sizeTop};
 ghost use Rattle.rules.specs.Calls.{within, upward, grownBy};
 ghost use Rattle.rules.specs.Runs.{grow};
 ghost use Rattle.promises.specs.Order.Sound.{Sound};
@@ -29,11 +29,9 @@ enum Size {
 }
 
 fn raised(size: u64, up: u64) -> Size
+    requires { ⌜ size ≤ sizeTop ⌝ }
     ensures { λ r. ⌜ asOption r ≡ within (pos size +ℤ pos up) ⌝ }
 {
-    if size > SIZE_TOP {
-        return Size::Out;
-    }
     if up > SIZE_TOP - size {
         return Size::Out;
     }
@@ -42,18 +40,17 @@ fn raised(size: u64, up: u64) -> Size
 
 // Down by `less` and one more.
 fn lowered(size: u64, less: u64) -> Size
+    requires { ⌜ size ≤ sizeTop ⌝ }
     ensures { λ r. ⌜ asOption r ≡ within (pos size +ℤ negsuc less) ⌝ }
 {
     if size <= less {
-        return Size::Out;
-    }
-    if size - 1 - less > SIZE_TOP {
         return Size::Out;
     }
     Size::To(size - 1 - less)
 }
 
 fn new_size(size: u64, count: i64) -> Size
+    requires { ⌜ size ≤ sizeTop ⌝ }
     ensures { λ r. ⌜ asOption r ≡ within (pos size +ℤ count) ⌝ }
 {
     if count < 0 {
@@ -73,7 +70,7 @@ fn no_memory(count: i64, memory: bool) -> bool
 }
 
 fn grow_by(t: &mut [u64; Table::WORDS], count: i64, memory: bool, s: usize) -> Answer
-    requires { ⌜ s < slotCount ⌝ }
+    requires { ⌜ (s < slotCount) × Sound (tableOf (now t)) ⌝ }
     ensures { λ r. ⌜ Makes (grownBy (tableOf (now (t .entry))) count memory s) r (tableOf (now (t .exit))) ⌝ }
 {
     let k = slot::kin_at(t, s);

@@ -18,8 +18,9 @@ use Rattle.lines.specs.declared.word.Word.{Word}
 use Rattle.lines.specs.declared.arguments.Args.the-variants.{All, Not}
 use Rattle.lines.specs.Words.{firstWord, Cut}
 use Rattle.lines.specs.Values.{argumentIn}
+use Rattle.lines.specs.Kinds.{noKind}
 use Rattle.lines.specs.Grammar.{commandCount, kindsOf, kindAt}
-use Rattle.lines.specs.Meaning.{Arguments, are, lack, andMore, argumentsIn, Told}
+use Rattle.lines.specs.Meaning.{wordCount, Arguments, are, lack, andMore, argumentsIn, Told}
 use Rattle.lines.proofs.GrammarLaws.{kinds-few, kinds-end}
 
 unfoldable pub prefixed : List ℕ → Arguments → Arguments
@@ -57,20 +58,20 @@ module _ (k : ℕ) (line : List ℕ) (start : ℕ) (b : List ℕ) where
     pub wrote : Wrote b 1 values w (i + 1)
     pub sofar : argumentsIn (kindsOf k) (drop start line) ≡ prefixed values (argumentsIn (drop i (kindsOf k)) (drop at line))
 
-  pub begun : {kind : ℕ} → start ≤ length line → 10 ≤ length b → kind ≡ kindAt k 0 → Midway b start 0 kind
+  pub begun : {kind : ℕ} → start ≤ length line → wordCount ≤ length b → kind ≡ kindAt k 0 → Midway b start 0 kind
   begun h l e = record { few = omega arith; within = h; here = e; values = []; wrote = wrote-none b 1 (omega arith); sofar = sym (prefixed-none _) }
 
   module _ {w : List ℕ} {at i kind : ℕ} (m : Midway w at i kind) where
-    module _ (h : kind ≡ 46 → ⊥) where
+    module _ (h : kind ≡ noKind → ⊥) where
       pub one-more : i < length (kindsOf k)
       unfolding kindAt
-      one-more = lt-of i (length (kindsOf k)) (λ g. h (m .here ∙ List·getD-eq-default (kindsOf k) 46 g))
+      one-more = lt-of i (length (kindsOf k)) (λ g. h (m .here ∙ List·getD-eq-default (kindsOf k) noKind g))
 
       module _ {c : Word} (cut : Cut line at c) where
         next-is : argumentsIn (drop i (kindsOf k)) (drop at line)
             ≡ andMore (argumentIn kind (take (c .to - c .from) (drop (c .from) line))) (argumentsIn (drop (suc i) (kindsOf k)) (drop (c .to) line))
         unfolding argumentsIn kindAt
-        next-is = rw (drop-cons (kindsOf k) i 46 one-more, cut .word, cut .rest, m .here)
+        next-is = rw (drop-cons (kindsOf k) i noKind one-more, cut .word, cut .rest, m .here)
 
         by : (v : Value) → v ≡ argumentIn kind (take (c .to - c .from) (drop (c .from) line))
             → argumentsIn (kindsOf k) (drop start line) ≡ prefixed (m .values) (andMore v (argumentsIn (drop (suc i) (kindsOf k)) (drop (c .to) line)))
@@ -80,7 +81,7 @@ module _ (k : ℕ) (line : List ℕ) (start : ℕ) (b : List ℕ) where
         unfolding Told prefixed andMore
         one-not {why} e d = subst (λ (a : Arguments). Told a b (Not why) d) (sym (by (No why) e)) refl
 
-        pub next : {v kind' : ℕ} → Is v ≡ argumentIn kind (take (c .to - c .from) (drop (c .from) line)) → k < commandCount → 10 ≤ length b → kind' ≡ kindAt k (i + 1)
+        pub next : {v kind' : ℕ} → Is v ≡ argumentIn kind (take (c .to - c .from) (drop (c .from) line)) → k < commandCount → wordCount ≤ length b → kind' ≡ kindAt k (i + 1)
             → Midway (set w (i + 1) v) (c .to) (i + 1) kind'
         next {v} e h p f = let z : i + 1 ≡ suc i = omega arith in record {
           few = omega (arith, one-more);
@@ -91,7 +92,7 @@ module _ (k : ℕ) (line : List ℕ) (start : ℕ) (b : List ℕ) where
           sofar = rw z (by (Is v) e ∙ prefixed-more (m .values) v _);
         }
 
-    module _ (h : k < commandCount) (e : kind ≡ 46) {c : Word} (cut : Cut line at c) where
+    module _ (h : k < commandCount) (e : kind ≡ noKind) {c : Word} (cut : Cut line at c) where
       last-is : argumentsIn (kindsOf k) (drop start line) ≡ prefixed (m .values) (argumentsIn [] (drop at line))
       last-is = m .sofar ∙ rw (drop-of-length-le (kindsOf k) {i = i} (kinds-end k h i (sym (m .here) ∙ e)))
 

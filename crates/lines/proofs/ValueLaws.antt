@@ -1,5 +1,6 @@
 -- What a word is worth, as the code finds it.
 use Prim.Native.Nat.{ℕ, zero, suc, _+_, _-_, _*_, _/_, _%_, _^_, _≤_, _<_}
+use Prim.Native.Char.{code}
 use native.Mathlib.Omega.{arith}
 use mathlib.Core.Path.{_≡_, refl, sym, ap, _∙_}
 use mathlib.Core.Bool.{Bool, true, false, cond, not, _&&_}
@@ -10,13 +11,13 @@ use lib.Dec.{leb, ltb, eqb}
 use borrow.Author.Tests.{leb-true, lt-ltb, le-ltb, ltb-true, ltb-false, eq-eqb, ne-eqb}
 use Rattle.rules.specs.Listing.{bytes}
 use Rattle.buffers.specs.Text.{put, Wrote}
-use Rattle.promises.specs.Laws.Lists.{and-left, and-right, clash}
+use Rattle.promises.specs.Laws.Bools.{and-left, and-right, clash}
 use Rattle.promises.specs.Laws.Digits.{readOn, valueOf}
 use Rattle.lines.specs.declared.value.Value.{Value}
 use Rattle.lines.specs.declared.Why.{Why}
 use Rattle.lines.specs.declared.value.Value.the-variants.{Is, No}
 use Rattle.lines.specs.declared.Why.the-variants.{NotANumber, TooLarge, NotAName}
-use Rattle.lines.specs.Values.{inside, nibble, allBelow, limited, numberIn, andThen, positive, negative, countIn, isHex, unhex, nameGood, nameBytes, nameSize}
+use Rattle.lines.specs.Values.{inside, nibble, allBelow, limited, numberIn, andThen, positive, negative, countIn, isHex, unhex, nameGood, nameBytes, nameWorth}
 use Rattle.lines.proofs.WordLaws.{same-length}
 
 -- ---- digits
@@ -25,13 +26,13 @@ unfolding inside
 inside-in low high b e = (leb-true low b (and-left _ _ e), leb-true b high (and-right (leb low b) _ e))
 
 module _ (b : ℕ) where
-  -- a digit of base 10 is its byte less 48
-  pub decimal-is : nibble b < 10 → nibble b ≡ b - 48
+  -- a digit of base 10 is its byte less that of 0
+  pub decimal-is : nibble b < 10 → nibble b ≡ b - code "0"
   unfolding nibble
-  decimal-is h = go (inside 48 57 b) (inside 65 70 b) (inside 97 102 b) h
+  decimal-is h = go (inside (code "0") (code "9") b) (inside (code "A") (code "F") b) (inside (code "a") (code "f") b) h
     where
-      go : (x y z : Bool) → cond x (b - 48) (cond y (b - 65 + 10) (cond z (b - 97 + 10) 16)) < 10
-          → cond x (b - 48) (cond y (b - 65 + 10) (cond z (b - 97 + 10) 16)) ≡ b - 48
+      go : (x y z : Bool) → cond x (b - code "0") (cond y (b - code "A" + 10) (cond z (b - code "a" + 10) 16)) < 10
+          → cond x (b - code "0") (cond y (b - code "A" + 10) (cond z (b - code "a" + 10) 16)) ≡ b - code "0"
       go true y z h = refl
       go false true z h = absurd (omega arith)
       go false false true h = absurd (omega arith)
@@ -119,22 +120,22 @@ module _ (w : List ℕ) where
   unfolding countIn
   no-count e = go w e
     where
-      go : (l : List ℕ) → length l ≡ 0 → No NotANumber ≡ cond (eqb (getD l 0 0) 45) (andThen (numberIn (drop 1 l)) negative) (andThen (numberIn l) positive)
+      go : (l : List ℕ) → length l ≡ 0 → No NotANumber ≡ cond (eqb (getD l 0 0) (code "-")) (andThen (numberIn (drop 1 l)) negative) (andThen (numberIn l) positive)
       go [] e = then-no positive (no-digit [] refl)
       go (x ∷ l) e = absurd (omega arith)
 
-  pub minus-count : getD w 0 0 ≡ 45 → {l : List ℕ} → l ≡ drop 1 w → {r : Value} → r ≡ andThen (numberIn l) negative → r ≡ countIn w
+  pub minus-count : getD w 0 0 ≡ code "-" → {l : List ℕ} → l ≡ drop 1 w → {r : Value} → r ≡ andThen (numberIn l) negative → r ≡ countIn w
   unfolding countIn
-  minus-count e k f = f ∙ rw (k, eq-eqb (getD w 0 0) 45 e)
+  minus-count e k f = f ∙ rw (k, eq-eqb (getD w 0 0) (code "-") e)
 
-  pub plain-count : (getD w 0 0 ≡ 45 → ⊥) → {r : Value} → r ≡ andThen (numberIn w) positive → r ≡ countIn w
+  pub plain-count : (getD w 0 0 ≡ code "-" → ⊥) → {r : Value} → r ≡ andThen (numberIn w) positive → r ≡ countIn w
   unfolding countIn
-  plain-count e f = f ∙ rw (ne-eqb (getD w 0 0) 45 e)
+  plain-count e f = f ∙ rw (ne-eqb (getD w 0 0) (code "-") e)
 
 -- ---- names
 pub short-hex : (w : List ℕ) → length w < 4 → isHex w ≡ false
 unfolding isHex bytes
-short-hex w h = same-length (take 4 w) (104 ∷ 101 ∷ 120 ∷ 58 ∷ []) (λ e. let z : length (take 4 w) ≡ length w = ap length (take-all 4 w (omega arith)) in omega arith)
+short-hex w h = same-length (take 4 w) (bytes "hex:") (λ e. let z : length (take 4 w) ≡ length w = ap length (take-all 4 w (omega arith)) in omega arith)
 
 pub hex-long : (w : List ℕ) → isHex w ≡ true → 4 ≤ length w
 hex-long w e = go (ltb (length w) 4) refl
@@ -150,27 +151,27 @@ unhex-length (a ∷ []) = refl
 unhex-length (a ∷ b ∷ l) = omega (arith, unhex-length l)
 
 module _ (w : List ℕ) where
-  pub plain-name : isHex w ≡ false → Is (length w) ≡ nameSize w
-  unfolding nameSize nameGood nameBytes
+  pub plain-name : isHex w ≡ false → Is (length w) ≡ nameWorth w
+  unfolding nameWorth nameGood nameBytes
   plain-name e = rw e
 
   module _ (e : isHex w ≡ true) where
-    hex-size : nameSize w ≡ cond (eqb (length w % 2) 0 && allBelow 16 (drop 4 w)) (Is (length (unhex (drop 4 w)))) (No NotAName)
-    unfolding nameSize nameGood nameBytes
+    hex-size : nameWorth w ≡ cond (eqb (length w % 2) 0 && allBelow 16 (drop 4 w)) (Is (length (unhex (drop 4 w)))) (No NotAName)
+    unfolding nameWorth nameGood nameBytes
     hex-size = rw e
 
-    pub odd-hex : length w % 2 ≡ 1 → No NotAName ≡ nameSize w
+    pub odd-hex : length w % 2 ≡ 1 → No NotAName ≡ nameWorth w
     odd-hex f = rw (hex-size, f)
 
     module _ {l : List ℕ} (k : l ≡ drop 4 w) where
-      pub bad-hex : allBelow 16 l ≡ false → No NotAName ≡ nameSize w
+      pub bad-hex : allBelow 16 l ≡ false → No NotAName ≡ nameWorth w
       bad-hex f = rw (hex-size, sym (ap (allBelow 16) k) ∙ f) (go (eqb (length w % 2) 0))
         where
           go : (b : Bool) → No NotAName ≡ cond (b && false) (Is (length (unhex (drop 4 w)))) (No NotAName)
           go true = refl
           go false = refl
 
-      pub good-hex : (length w % 2 ≡ 1 → ⊥) → allBelow 16 l ≡ true → Is ((length w - 4) / 2) ≡ nameSize w
+      pub good-hex : (length w % 2 ≡ 1 → ⊥) → allBelow 16 l ≡ true → Is ((length w - 4) / 2) ≡ nameWorth w
       good-hex h f = let z : length (unhex (drop 4 w)) ≡ (length w - 4) / 2 = unhex-length (drop 4 w) ∙ ap (λ (n : ℕ). n / 2) (length-drop 4 w) in
           rw (hex-size, sym (ap (allBelow 16) k) ∙ f, eq-eqb (length w % 2) 0 (even (length w) h), z)
         where

@@ -10,14 +10,6 @@ use lib.Dec.{eqb}
 use borrow.Author.Tests.{eq-eqb, ne-eqb}
 use Rattle.lines.specs.Words.{front, past, spaceIs, firstWord, afterWord, same, Cut}
 
-pub on : (b : Bool) → not b ≡ false → b ≡ true
-on true e = refl
-on false e = cc
-
-pub off : (b : Bool) → not b ≡ true → b ≡ false
-off true e = cc
-off false e = refl
-
 -- ---- how far the bytes pass
 module _ (p : ℕ → Bool) where
   pub front-short : (l : List ℕ) → length (front p l) ≤ length l

@@ -1,11 +1,13 @@
--- The commands and the kinds of their arguments: n number, c count, y flag, w wish, s name, o a room that may be left out.
+-- The commands and the kinds of their arguments.
 use Prim.Native.Nat.{ℕ, suc}
 use Prim.Native.String as S
-use mathlib.Core.Bool.{cond}
+use mathlib.Core.Bool.{Bool, cond}
 use mathlib.Core.List.{List, [], _∷_}
 use lib.ListN.{getD}
+use lib.Dec.{eqb}
 use Rattle.rules.specs.Listing.{bytes}
 use Rattle.lines.specs.Words.{same}
+use Rattle.lines.specs.Kinds.{noKind}
 
 pub record Command : Type 0 where
   pub name : List ℕ
@@ -41,17 +43,21 @@ grammar =
 abbrev pub commandCount : ℕ
 commandCount = 19
 
--- the place of a word among the names, or how many there are
-unfoldable pub placeIn : List Command → List ℕ → ℕ
-placeIn [] w = 0
-placeIn (c ∷ cs) w = cond (same w (c .name)) 0 (suc (placeIn cs w))
+-- the number of the command with this name, or how many there are
+unfoldable pub numberAmong : List Command → List ℕ → ℕ
+numberAmong [] w = 0
+numberAmong (c ∷ cs) w = cond (same w (c .name)) 0 (suc (numberAmong cs w))
 
-unfoldable pub place : List ℕ → ℕ
-place w = placeIn grammar w
+unfoldable pub commandOf : List ℕ → ℕ
+commandOf w = numberAmong grammar w
+
+-- is it the number of the command with this name?
+unfoldable pub isCommand : S.String → ℕ → Bool
+isCommand name k = eqb k (commandOf (bytes name))
 
 unfoldable pub kindsOf : ℕ → List ℕ
 kindsOf k = getD grammar k (command "" "") .kinds
 
--- the kind of argument i, or 46
+-- the kind of argument i
 unfoldable pub kindAt : ℕ → ℕ → ℕ
-kindAt k i = getD (kindsOf k) i 46
+kindAt k i = getD (kindsOf k) i noKind

@@ -1,4 +1,5 @@
 pub mod Words
+pub mod Kinds
 pub mod Values
 pub mod Grammar
 pub mod Meaning

@@ -1,5 +1,6 @@
 -- What a line means.
 use Prim.Native.Nat.{ℕ, _+_, _*_}
+use Prim.Native.Char.{code}
 use mathlib.Core.Path.{_≡_}
 use mathlib.Core.Option.{Option, none, some}
 use mathlib.Core.Bool.{true, cond, _&&_, _||_}
@@ -9,7 +10,7 @@ use lib.Dec.{eqb, ltb}
 use Rattle.rules.specs.Runs as rules
 use Rattle.buffers.specs.Text.{put}
 use Rattle.steps.specs.declared.Call.{Call}
-use Rattle.steps.specs.Calls.{callOf}
+use Rattle.steps.specs.ByValue.{callOf}
 use Rattle.codes.specs.Codes.{isFlag, callIn}
 use Rattle.lines.specs.declared.Said.{Said}
 use Rattle.lines.specs.declared.Said.the-variants as said
@@ -21,9 +22,13 @@ use Rattle.lines.specs.declared.arguments.Args.{Args}
 use Rattle.lines.specs.declared.arguments.Args.the-variants.{All, Not}
 use Rattle.lines.specs.Words.{firstWord, afterWord}
 use Rattle.lines.specs.Values.{nameGood, nameBytes, argumentIn}
-use Rattle.lines.specs.Grammar.{commandCount, place, kindsOf}
+use Rattle.lines.specs.Grammar.{commandCount, commandOf, isCommand, kindsOf}
 
 -- ---- the arguments of a command, or why there are none
+-- the command's number, and nine arguments at most
+abbrev pub wordCount : ℕ
+wordCount = 10
+
 pub data Arguments : Type 0 where
   are : List ℕ → Arguments
   lack : Why → Arguments
@@ -59,14 +64,14 @@ pub data Meaning : Type 0 where
 unfoldable pub bits : ℕ → ℕ → ℕ → ℕ → ℕ
 bits a b c d = cond (isFlag a && isFlag b && isFlag c && isFlag d) (a + 2 * b + 4 * c + 8 * d) 16
 
--- the words of call k: ten, of which the first eight count; a thread's flags go together
+-- the words of call k, of which the first eight count; a thread's flags, its last four arguments, go together
 unfoldable pub flagsTogether : ℕ → List ℕ → List ℕ
-flagsTogether k w = cond (eqb k 5) (set w 6 (bits (getD w 6 0) (getD w 7 0) (getD w 8 0) (getD w 9 0))) w
+flagsTogether k w = cond (isCommand "thread" k) (set w 6 (bits (getD w 6 0) (getD w 7 0) (getD w 8 0) (getD w 9 0))) w
 
 unfoldable pub wordsOf : ℕ → List ℕ → List ℕ
 wordsOf k w = set (flagsTogether k w) 0 k
 
--- only a flag or a wish can be wrong there
+-- words that are no call are answered as a choice that is none
 unfoldable pub calledBy : Option Call → Meaning
 calledBy none = misread NotAChoice
 calledBy (some c) = called (callOf [] c)
@@ -74,33 +79,34 @@ calledBy (some c) = called (callOf [] c)
 -- command k with its arguments in w from place 1 on, and l for the line behind its name
 unfoldable pub commandMeans : ℕ → List ℕ → List ℕ → Meaning
 commandMeans k l w =
-    cond (eqb k 2) (called (rules.spawn (nameBytes (firstWord l)) (getD w 2 0)))
-    (cond (eqb k 16) (listed (getD w 1 0)) (cond (eqb k 17) shows (cond (eqb k 18) renews (calledBy (callIn (wordsOf k w))))))
+    cond (isCommand "spawn" k) (called (rules.spawn (nameBytes (firstWord l)) (getD w 2 0)))
+    (cond (isCommand "list" k) (listed (getD w 1 0))
+    (cond (isCommand "show" k) shows (cond (isCommand "fresh" k) renews (calledBy (callIn (wordsOf k w))))))
 
 unfoldable pub withArguments : ℕ → List ℕ → Arguments → Meaning
-withArguments k l (are vs) = commandMeans k l (put (replicate 10 0) 1 vs)
+withArguments k l (are vs) = commandMeans k l (put (replicate wordCount 0) 1 vs)
 withArguments k l (lack why) = misread why
 
 -- an empty line and one that starts with # are passed over
 unfoldable pub means : List ℕ → Meaning
 means l =
-    let w = firstWord l in let k = place w in let rest = afterWord l in
-    cond (eqb (length w) 0 || eqb (getD w 0 0) 35) passed (cond (ltb k commandCount) (withArguments k rest (argumentsIn (kindsOf k) rest)) (misread UnknownWord))
+    let w = firstWord l in let k = commandOf w in let rest = afterWord l in
+    cond (eqb (length w) 0 || eqb (getD w 0 0) (code "#")) passed (cond (ltb k commandCount) (withArguments k rest (argumentsIn (kindsOf k) rest)) (misread UnknownWord))
 
 -- ---- what the code says of it, with the name in a buffer
 abbrev pub saidBy : Option Call → Said
 saidBy none = said.Misread NotAChoice
 saidBy (some c) = said.Call c
 
-abbrev pub saidOf : List ℕ → Said → Meaning
-saidOf name said.Nothing = passed
-saidOf name (said.Call c) = called (callOf [] c)
-saidOf name (said.Spawn len entry) = called (rules.spawn (take len name) entry)
-saidOf name (said.List room) = listed room
-saidOf name said.Show = shows
-saidOf name said.Fresh = renews
-saidOf name (said.Misread why) = misread why
+abbrev pub meaningOf : List ℕ → Said → Meaning
+meaningOf name said.Nothing = passed
+meaningOf name (said.Call c) = called (callOf [] c)
+meaningOf name (said.Spawn len entry) = called (rules.spawn (take len name) entry)
+meaningOf name (said.List room) = listed room
+meaningOf name said.Show = shows
+meaningOf name said.Fresh = renews
+meaningOf name (said.Misread why) = misread why
 
 -- a spawn's name can be read
 abbrev pub NameThere : ℕ → List ℕ → Type 0
-NameThere k l = k ≡ 2 → nameGood (firstWord l) ≡ true
+NameThere k l = isCommand "spawn" k ≡ true → nameGood (firstWord l) ≡ true

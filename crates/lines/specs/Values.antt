@@ -1,5 +1,6 @@
 -- What a word is worth as an argument, or why nothing.
 use Prim.Native.Nat.{ℕ, _+_, _-_, _*_, _%_, _^_}
+use Prim.Native.Char.{code}
 use mathlib.Core.Bool.{Bool, true, cond, not, _&&_}
 use mathlib.Core.List.{List, [], _∷_}
 use lib.ListN.{length, getD, take, drop}
@@ -10,14 +11,17 @@ use Rattle.lines.specs.declared.value.Value.{Value}
 use Rattle.lines.specs.declared.value.Value.the-variants.{Is, No}
 use Rattle.lines.specs.declared.Why.the-variants.{TooFew, NotANumber, TooLarge, NotAName}
 use Rattle.lines.specs.Words.{same}
+use Rattle.lines.specs.Kinds.{aCount, aFlag, aWish, aName, aRoom}
 
 -- ---- digits
 unfoldable pub inside : ℕ → ℕ → ℕ → Bool
 inside low high b = leb low b && leb b high
 
--- 0 to 9, A to F, a to f; 16 is no digit
+-- 16 is no digit
 unfoldable pub nibble : ℕ → ℕ
-nibble b = cond (inside 48 57 b) (b - 48) (cond (inside 65 70 b) (b - 65 + 10) (cond (inside 97 102 b) (b - 97 + 10) 16))
+nibble b =
+    cond (inside (code "0") (code "9") b) (b - code "0")
+    (cond (inside (code "A") (code "F") b) (b - code "A" + 10) (cond (inside (code "a") (code "f") b) (b - code "a" + 10) 16))
 
 unfoldable pub allBelow : ℕ → List ℕ → Bool
 allBelow base [] = true
@@ -42,7 +46,7 @@ unfoldable pub negative : ℕ → Value
 negative n = cond (leb n (2 ^ 63)) (Is (cond (eqb n 0) 0 (2 ^ 64 - n))) (No TooLarge)
 
 unfoldable pub countIn : List ℕ → Value
-countIn w = cond (eqb (getD w 0 0) 45) (andThen (numberIn (drop 1 w)) negative) (andThen (numberIn w) positive)
+countIn w = cond (eqb (getD w 0 0) (code "-")) (andThen (numberIn (drop 1 w)) negative) (andThen (numberIn w) positive)
 
 -- ---- a flag, a wish, as a call's word has them; one more than the last is none
 unfoldable pub flagIn : List ℕ → Value
@@ -66,13 +70,13 @@ nameGood w = cond (isHex w) (eqb (length w % 2) 0 && allBelow 16 (drop 4 w)) tru
 unfoldable pub nameBytes : List ℕ → List ℕ
 nameBytes w = cond (isHex w) (unhex (drop 4 w)) w
 
-unfoldable pub nameSize : List ℕ → Value
-nameSize w = cond (nameGood w) (Is (length (nameBytes w))) (No NotAName)
+unfoldable pub nameWorth : List ℕ → Value
+nameWorth w = cond (nameGood w) (Is (length (nameBytes w))) (No NotAName)
 
--- ---- by its kind: c count, y flag, w wish, s name, else a number
+-- ---- by its kind; a room is a number
 unfoldable pub valueIn : ℕ → List ℕ → Value
-valueIn kind w = cond (eqb kind 99) (countIn w) (cond (eqb kind 121) (flagIn w) (cond (eqb kind 119) (wishIn w) (cond (eqb kind 115) (nameSize w) (numberIn w))))
+valueIn kind w = cond (eqb kind aCount) (countIn w) (cond (eqb kind aFlag) (flagIn w) (cond (eqb kind aWish) (wishIn w) (cond (eqb kind aName) (nameWorth w) (numberIn w))))
 
--- an argument that isn't there: only a room, kind o, may be left out, and is then as large as can be
+-- an argument that isn't there: only a room may be left out, and is then as large as can be
 unfoldable pub argumentIn : ℕ → List ℕ → Value
-argumentIn kind w = cond (ltb 0 (length w)) (valueIn kind w) (cond (eqb kind 111) (Is (2 ^ 64 - 1)) (No TooFew))
+argumentIn kind w = cond (ltb 0 (length w)) (valueIn kind w) (cond (eqb kind aRoom) (Is (2 ^ 64 - 1)) (No TooFew))

@@ -1,5 +1,6 @@
 -- The words of a line: runs of bytes other than the space.
 use Prim.Native.Nat.{ℕ, _-_, _≤_}
+use Prim.Native.Char.{code}
 use mathlib.Core.Path.{_≡_}
 use mathlib.Core.Bool.{Bool, true, false, cond, not, _&&_}
 use mathlib.Core.List.{List, [], _∷_}
@@ -18,8 +19,8 @@ past p (b ∷ l) = cond (p b) (past p l) (b ∷ l)
 
 -- a space, or a byte that is none
 unfoldable pub spaceIs : Bool → ℕ → Bool
-spaceIs true b = eqb b 32
-spaceIs false b = not (eqb b 32)
+spaceIs true b = eqb b (code " ")
+spaceIs false b = not (eqb b (code " "))
 
 unfoldable pub firstWord : List ℕ → List ℕ
 firstWord l = front (spaceIs false) (past (spaceIs true) l)

@@ -1,18 +1,30 @@
 // The commands, by their number, and the kinds of their arguments.
 ghost use mathlib.Core.Path.{_≡_};
 ghost use Prim.Native.Nat.{_<_};
-ghost use lib.ListN.{getD};
-ghost use Rattle.lines.specs.Grammar.{commandCount, place, kindAt};
+ghost use Rattle.lines.specs.Grammar.{commandCount, commandOf, kindAt};
 use crate::word;
 
 pub const COMMANDS: usize = 19;
+
+// The commands that are more than a call's words, by their numbers.
+pub const SPAWN: usize = 2;
+
+pub const THREAD: usize = 5;
+
+pub const LIST: usize = 16;
+
+pub const SHOW: usize = 17;
+
+pub const FRESH: usize = 18;
+
+pub const NO_KIND: u8 = b'.';
 
 const NAMES: [u8; 122] =
     *b" boot start spawn system-return fork thread dispatch yield sleep wake kill wait join thread-exit exit grow list show fresh";
 
 // The number of the command with this name; COMMANDS: there is none.
 pub fn find(w: &[u8]) -> usize
-    ensures { λ r. ⌜ r ≡ place (now (w .entry)) ⌝ }
+    ensures { λ r. ⌜ r ≡ commandOf (now (w .entry)) ⌝ }
 {
     let mut at = 0;
     let mut k = 0;
@@ -29,36 +41,36 @@ pub fn find(w: &[u8]) -> usize
     k
 }
 
-fn pick(kinds: &[u8], i: usize) -> u8
-    ensures { λ r. ⌜ r ≡ getD (now (kinds .entry)) i 46 ⌝ }
-{
-    if i < kinds.len() {
-        return kinds[i];
-    }
-    b'.'
-}
+// The letters of the arguments, and dots behind the last.
+const KINDS: [[u8; 10]; COMMANDS] = [
+    *b"..........", // boot
+    *b"..........", // start
+    *b"sn........", // spawn
+    *b"n.........", // system-return
+    *b"ny........", // fork
+    *b"nnnnnyyyy.", // thread
+    *b"n.........", // dispatch
+    *b"n.........", // yield
+    *b"nn........", // sleep
+    *b"n.........", // wake
+    *b"n.........", // kill
+    *b"nw........", // wait
+    *b"nnw.......", // join
+    *b"nn........", // thread-exit
+    *b"nn........", // exit
+    *b"ncy.......", // grow
+    *b"o.........", // list
+    *b"..........", // show
+    *b"..........", // fresh
+];
 
-// The kind of argument i of command k; b'.': it has no such argument.
+// The kind of argument i of command k; NO_KIND: it has no such argument.
 pub fn kind(k: usize, i: usize) -> u8
     requires { ⌜ k < commandCount ⌝ }
     ensures { λ r. ⌜ r ≡ kindAt k i ⌝ }
 {
-    match k {
-        2 => pick(b"sn", i),
-        3 => pick(b"n", i),
-        4 => pick(b"ny", i),
-        5 => pick(b"nnnnnyyyy", i),
-        6 => pick(b"n", i),
-        7 => pick(b"n", i),
-        8 => pick(b"nn", i),
-        9 => pick(b"n", i),
-        10 => pick(b"n", i),
-        11 => pick(b"nw", i),
-        12 => pick(b"nnw", i),
-        13 => pick(b"nn", i),
-        14 => pick(b"nn", i),
-        15 => pick(b"ncy", i),
-        16 => pick(b"o", i),
-        _ => b'.',
+    if i < 10 {
+        return KINDS[k][i];
     }
+    NO_KIND
 }

@@ -2,7 +2,7 @@
 ghost use mathlib.Core.Path.{_≡_};
 ghost use Prim.Native.Nat.{_≤_};
 ghost use lib.ListN.{length, drop};
-ghost use Rattle.lines.specs.Meaning.{means, commandMeans, wordsOf, bits, flagsTogether, saidBy, saidOf, NameThere};
+ghost use Rattle.lines.specs.Meaning.{wordCount, means, commandMeans, wordsOf, bits, flagsTogether, saidBy, meaningOf, NameThere};
 ghost use Rattle.codes.specs.Codes.{callIn};
 use arguments::Args;
 use codes::Read;
@@ -58,16 +58,16 @@ fn bits(a: u64, b: u64, c: u64, d: u64) -> u64
 }
 
 fn flags_together(k: usize, w: &mut [u64])
-    requires { ⌜ 10 ≤ length (now w) ⌝ }
+    requires { ⌜ wordCount ≤ length (now w) ⌝ }
     ensures { λ _. ⌜ now (w .exit) ≡ flagsTogether k (now (w .entry)) ⌝ }
 {
-    if k == 5 {
+    if k == grammar::THREAD {
         w[6] = bits(w[6], w[7], w[8], w[9]);
     }
 }
 
 fn call(k: usize, w: &mut [u64]) -> Said
-    requires { ⌜ 10 ≤ length (now w) ⌝ }
+    requires { ⌜ wordCount ≤ length (now w) ⌝ }
     ensures { λ r. ⌜ r ≡ saidBy (callIn (wordsOf k (now (w .entry)))) ⌝ }
 {
     flags_together(k, w);
@@ -80,20 +80,20 @@ fn call(k: usize, w: &mut [u64]) -> Said
 
 // Command k, with its arguments in w and the rest of the line from `at` on.
 fn command(line: &[u8], at: usize, k: usize, w: &mut [u64], name: &mut [u8]) -> Said
-    requires { ⌜ (at ≤ length (now line)) × (10 ≤ length (now w)) × (length (now line) ≤ length (now name)) × NameThere k (drop at (now line)) ⌝ }
-    ensures { λ r. ⌜ saidOf (now (name .exit)) r ≡ commandMeans k (drop at (now (line .entry))) (now (w .entry)) ⌝ }
+    requires { ⌜ (at ≤ length (now line)) × (wordCount ≤ length (now w)) × (length (now line) ≤ length (now name)) × NameThere k (drop at (now line)) ⌝ }
+    ensures { λ r. ⌜ meaningOf (now (name .exit)) r ≡ commandMeans k (drop at (now (line .entry))) (now (w .entry)) ⌝ }
 {
     match k {
-        2 => {
+        grammar::SPAWN => {
             let c = word::next(line, at);
             let from = c.from;
             let to = c.to;
             let len = name::write_name(&line[from..to], name);
             Said::Spawn(len, w[2])
         }
-        16 => Said::List(w[1]),
-        17 => Said::Show,
-        18 => Said::Fresh,
+        grammar::LIST => Said::List(w[1]),
+        grammar::SHOW => Said::Show,
+        grammar::FRESH => Said::Fresh,
         _ => call(k, w),
     }
 }
@@ -101,7 +101,7 @@ fn command(line: &[u8], at: usize, k: usize, w: &mut [u64], name: &mut [u8]) -> 
 // The name that a spawn has goes into a lent buffer.
 pub fn read(line: &[u8], name: &mut [u8]) -> Said
     requires { ⌜ length (now line) ≤ length (now name) ⌝ }
-    ensures { λ r. ⌜ saidOf (now (name .exit)) r ≡ means (now (line .entry)) ⌝ }
+    ensures { λ r. ⌜ meaningOf (now (name .exit)) r ≡ means (now (line .entry)) ⌝ }
 {
     let c = word::next(line, 0);
     let from = c.from;
@@ -116,7 +116,7 @@ pub fn read(line: &[u8], name: &mut [u8]) -> Said
     if k >= grammar::COMMANDS {
         return Said::Misread(Why::UnknownWord);
     }
-    let mut w = [0u64; 10];
+    let mut w = [0u64; arguments::WORDS];
     match arguments::read(line, to, k, &mut w) {
         Args::All => command(line, to, k, &mut w, name),
         Args::Not(why) => Said::Misread(why),

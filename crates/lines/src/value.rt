@@ -1,9 +1,23 @@
 // What a word is worth as an argument.
 ghost use mathlib.Core.Path.{_≡_};
 ghost use Prim.Native.Nat.{_≤_};
-ghost use Rattle.lines.specs.Values.{inside, nibble, allBelow, numberIn, andThen, positive, negative, countIn, flagIn, wishIn, isHex, nameSize, valueIn, argumentIn};
+ghost use Rattle.lines.specs.Values.{inside, nibble, allBelow, numberIn, andThen, positive, negative, countIn, flagIn, wishIn, isHex, nameWorth, valueIn, argumentIn};
 use crate::Why;
 use crate::word;
+
+// The kinds of arguments that are no plain numbers.
+const COUNT: u8 = b'c';
+
+const FLAG: u8 = b'y';
+
+const WISH: u8 = b'w';
+
+const NAME: u8 = b's';
+
+const ROOM: u8 = b'o';
+
+// 2^63: the counts below 0 are so many.
+const HALF: u64 = 1 << 63;
 
 pub enum Value {
     Is(u64),
@@ -74,7 +88,7 @@ fn number(w: &[u8]) -> Value
 fn positive(n: u64) -> Value
     ensures { λ r. ⌜ r ≡ positive n ⌝ }
 {
-    if n >= 9223372036854775808 {
+    if n >= HALF {
         return Value::No(Why::TooLarge);
     }
     Value::Is(n)
@@ -84,7 +98,7 @@ fn positive(n: u64) -> Value
 fn negative(n: u64) -> Value
     ensures { λ r. ⌜ r ≡ negative n ⌝ }
 {
-    if n > 9223372036854775808 {
+    if n > HALF {
         return Value::No(Why::TooLarge);
     }
     if n == 0 {
@@ -158,8 +172,8 @@ pub fn is_hex(w: &[u8]) -> bool
     word::same(&w[..4], b"hex:")
 }
 
-fn name_size(w: &[u8]) -> Value
-    ensures { λ r. ⌜ r ≡ nameSize (now (w .entry)) ⌝ }
+fn name_worth(w: &[u8]) -> Value
+    ensures { λ r. ⌜ r ≡ nameWorth (now (w .entry)) ⌝ }
 {
     if !is_hex(w) {
         return Value::Is(w.len() as u64);
@@ -177,10 +191,10 @@ fn worth(kind: u8, w: &[u8]) -> Value
     ensures { λ r. ⌜ r ≡ valueIn kind (now (w .entry)) ⌝ }
 {
     match kind {
-        b'c' => count(w),
-        b'y' => flag(w),
-        b'w' => wish(w),
-        b's' => name_size(w),
+        COUNT => count(w),
+        FLAG => flag(w),
+        WISH => wish(w),
+        NAME => name_worth(w),
         _ => number(w),
     }
 }
@@ -192,7 +206,7 @@ pub fn argument(kind: u8, w: &[u8]) -> Value
     if w.len() > 0 {
         return worth(kind, w);
     }
-    if kind == b'o' {
+    if kind == ROOM {
         return Value::Is(u64::MAX);
     }
     Value::No(Why::TooFew)

@@ -22,7 +22,7 @@ use Rattle.rules.specs.Listing.{bytes, digits, stateText, lineOf, linesOf, list
 use Rattle.words.specs.declared.slot.StartWords.{StartWords}
 use Rattle.words.specs.Reading.{bytesOf, startOf}
 use Rattle.labels.specs.Names.{nameShown}
-use Rattle.listing.specs.Lines.{pidText, stateLabelled, nameText, shownLine, lineAt, linesBelow}
+use Rattle.listing.specs.Lines.{pidText, stateLabelled, nameLabelled, shownLine, lineAt, linesBelow}
 
 -- what a match that is past UNUSED says
 pub used : (s : ProcState) → OneOf (1 ∷ 2 ∷ 3 ∷ 4 ∷ 5 ∷ []) (tagOf state.the-type s) → eqb 0 (stateCode s) ≡ false
@@ -33,8 +33,8 @@ used RUNNING k = refl
 used SLEEPING k = refl
 used ZOMBIE k = refl
 
-line-pieces : (p : Process) → lineOf p ≡ pidText (p .meta .pid .0) ++ stateLabelled (p .meta .state) ++ nameText (p .start .name)
-unfolding lineOf pidText stateLabelled nameText nameShown
+line-pieces : (p : Process) → lineOf p ≡ pidText (p .meta .pid .0) ++ stateLabelled (p .meta .state) ++ nameLabelled (p .start .name)
+unfolding lineOf pidText stateLabelled nameLabelled nameShown
 line-pieces p = simp append-assoc
 
 module _ (t : Table) (s : ℕ) (m : ProcMeta) (here : m ≡ at (t .core) s .meta) where
@@ -43,7 +43,7 @@ module _ (t : Table) (s : ℕ) (m : ProcMeta) (here : m ≡ at (t .core) s .meta
   line-none e = rw (← here, e)
 
   pub line-here : (w : StartWords) → startOf w ≡ at (t .core) s .start → eqb 0 (stateCode (m .state)) ≡ false
-      → lineAt t s ≡ pidText (m .pid .0) ++ stateLabelled (m .state) ++ nameText (bytesOf (w .name0) ++ bytesOf (w .name1))
+      → lineAt t s ≡ pidText (m .pid .0) ++ stateLabelled (m .state) ++ nameLabelled (bytesOf (w .name0) ++ bytesOf (w .name1))
   unfolding lineAt shownLine
   line-here w there e =
       let p : Process = at (t .core) s in
@@ -52,8 +52,8 @@ module _ (t : Table) (s : ℕ) (m : ProcMeta) (here : m ≡ at (t .core) s .meta
       rw (u, here, n) (line-pieces p)
 
 pub line-length : (n : ℕ) (s : ProcState) (name : List ℕ)
-    → length (pidText n ++ stateLabelled s ++ nameText name) ≡ 21 + length (digits n) + length (stateText s) + length (nameShown name)
-unfolding pidText stateLabelled nameText bytes
+    → length (pidText n ++ stateLabelled s ++ nameLabelled name) ≡ 21 + length (digits n) + length (stateText s) + length (nameShown name)
+unfolding pidText stateLabelled nameLabelled bytes
 line-length n s name = simp length-append (omega arith)
 
 -- ---- the lines together

@@ -17,8 +17,8 @@ pidText n = bytes "pid: " ++ digits n
 unfoldable pub stateLabelled : ProcState → List ℕ
 stateLabelled s = bytes " state: " ++ stateText s
 
-unfoldable pub nameText : List ℕ → List ℕ
-nameText name = bytes " name: " ++ nameShown name ++ bytes "\n"
+unfoldable pub nameLabelled : List ℕ → List ℕ
+nameLabelled name = bytes " name: " ++ nameShown name ++ bytes "\n"
 
 -- what a slot adds
 unfoldable pub shownLine : Process → List ℕ

@@ -7,7 +7,7 @@ ghost use Rattle.rules.specs.Sizes.{slotCount, lineTop};
 ghost use Rattle.rules.specs.Listing.{stateText};
 ghost use Rattle.words.specs.Reading.{tableOf, bytesOf};
 ghost use Rattle.buffers.specs.Text.{Wrote};
-ghost use Rattle.listing.specs.Lines.{pidText, stateLabelled, nameText, lineAt};
+ghost use Rattle.listing.specs.Lines.{pidText, stateLabelled, nameLabelled, lineAt};
 use labels::digits;
 use labels::name;
 use labels::state;
@@ -62,8 +62,8 @@ fn write_state(buffer: &mut [u8], at: usize, s: ProcState) -> usize
 }
 
 fn write_name(buffer: &mut [u8], at: usize, a: u64, b: u64) -> usize
-    requires { ⌜ at + length (nameText (bytesOf a ++ bytesOf b)) ≤ length (now buffer) ⌝ }
-    ensures { λ r. ⌜ Wrote (now (buffer .entry)) at (nameText (bytesOf a ++ bytesOf b)) (now (buffer .exit)) r ⌝ }
+    requires { ⌜ at + length (nameLabelled (bytesOf a ++ bytesOf b)) ≤ length (now buffer) ⌝ }
+    ensures { λ r. ⌜ Wrote (now (buffer .entry)) at (nameLabelled (bytesOf a ++ bytesOf b)) (now (buffer .exit)) r ⌝ }
 {
     let n = name::shown_name(a, b);
     let bytes = n.bytes;

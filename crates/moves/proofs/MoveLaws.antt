@@ -5,8 +5,8 @@ use lib.ListN.{set}
 use Rattle.rules.specs.declared.Parent.the-variants.{Nobody, Of}
 use Rattle.rules.specs.declared.ProcMeta.{ProcMeta}
 use Rattle.rules.specs.declared.Process.{Process}
-use Rattle.rules.specs.Model.{Table, at, slot, onMeta, asRunnable, asRunning, asSleeping, asZombie}
-use Rattle.rules.specs.Moves.{change, publish, hand, idle, yieldOn, sleepOn, zombieOn}
+use Rattle.rules.specs.Model.{Table, at, slot, onMeta, asRunnable, asRunning}
+use Rattle.rules.specs.Moves.{change, publish, hand, idle, yieldOn}
 use Rattle.promises.specs.Order.Chains.{onCore}
 use Rattle.words.specs.Effects.{withMeta, withHart, withQueue, enqueue}
 
@@ -42,10 +42,7 @@ module _ (t : Table) (h s : ℕ) {u : Table} (e : u ≡ onCore (idle h) t) where
   unfolding yieldOn onCore
   yield-law = ap (onCore (publish s)) e
 
-  pub sleep-law : (ch : ℕ) (m : ProcMeta) → m ≡ asSleeping ch (at (u .core) s .meta) → onCore (change (withMeta m) s) u ≡ onCore (sleepOn h s ch) t
-  unfolding sleepOn onCore
-  sleep-law ch m f = meta-change u s m (asSleeping ch) f ∙ ap (onCore (change (onMeta (asSleeping ch)) s)) e
-
-  pub zombie-law : (x : ℕ) (m : ProcMeta) → m ≡ asZombie x (at (u .core) s .meta) → onCore (change (withMeta m) s) u ≡ onCore (zombieOn h s x) t
-  unfolding zombieOn onCore
-  zombie-law x m f = meta-change u s m (asZombie x) f ∙ ap (onCore (change (onMeta (asZombie x)) s)) e
+  -- the caller stops, and its meta is what f makes of it
+  pub stop-law : (f : ProcMeta → ProcMeta) (m : ProcMeta) → m ≡ at (u .core) s .meta → onCore (change (withMeta (f m)) s) u ≡ onCore (λ c. change (onMeta f) s (idle h c)) t
+  unfolding onCore
+  stop-law f m q = meta-change u s (f m) f (ap f q) ∙ ap (onCore (change (onMeta f) s)) e

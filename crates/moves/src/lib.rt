@@ -1,8 +1,8 @@
-// The scheduler's moves that calls are made of. Each does to the table what the rules' move of that name does, and asks only for what it needs.
+// The scheduler's moves that calls are made of. Each is a move of the rules, by its contract, and asks only for what it needs.
 ghost use mathlib.Core.Path.{_≡_};
 ghost use Prim.Native.Nat.{_<_};
 ghost use lib.ListN.{length};
-ghost use Rattle.rules.specs.Sizes.{slotCount, hartCount};
+ghost use Rattle.rules.specs.Sizes.{slotCount, hartCount, ownChannel};
 ghost use Rattle.rules.specs.Moves.{publish, idle, hand, yieldOn, sleepOn, zombieOn};
 ghost use Rattle.promises.specs.Order.Chains.{onCore};
 ghost use Rattle.words.specs.Reading.{tableOf};
@@ -14,6 +14,14 @@ use words::Table;
 use words::book;
 use words::queue;
 use words::slot;
+
+// The channel that those who wait for slot s sleep on.
+pub fn own_channel(s: usize) -> u64
+    requires { ⌜ s < slotCount ⌝ }
+    ensures { λ r. ⌜ r ≡ ownChannel s ⌝ }
+{
+    (s as u64) + 1
+}
 
 // Publish: RUNNABLE, queued, appended to the tail.
 pub fn make_runnable(t: &mut [u64; Table::WORDS], s: usize)

@@ -8,6 +8,7 @@ use lib.ListN.{length, take, getD, replicate, length-append, length-replicate}
 use lib.Seq.{length-take-le, getD-take, ext-getD}
 use Rattle.rules.specs.Sizes.{nameSize}
 use Rattle.rules.specs.Calls.{padded}
+use Rattle.promises.specs.Laws.Lists.{same-all}
 use Rattle.words.specs.Reading.{tabFrom, tab, bytesOf}
 use Rattle.words.proofs.Tabs.{length-tab, getD-tab, tab-same}
 
@@ -49,13 +50,8 @@ unfolding bytesOf
 built-all f {i} h b = tab-same 8 _ f 0 (λ j g. let z : i + j ≡ j = omega arith in b .bytes j (omega arith) ∙ ap f z)
 
 -- ---- the name, with zeros after it
-no-byte : (m i : ℕ) → _≡_ {A = ℕ} (getD (replicate m 0) i 0) 0
-no-byte zero i = refl
-no-byte (suc m) zero = refl
-no-byte (suc m) (suc i) = no-byte m i
-
 zeros-after : (l : List ℕ) (m i : ℕ) → getD (l ++ replicate m 0) i 0 ≡ getD l i 0
-zeros-after [] m i = no-byte m i
+zeros-after [] m i = same-all m 0 i
 zeros-after (x ∷ l) m zero = refl
 zeros-after (x ∷ l) m (suc i) = zeros-after l m i
 

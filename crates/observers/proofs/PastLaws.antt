@@ -1,10 +1,10 @@
 -- What the table is said to have where it has nothing.
-use Prim.Native.Nat.{ℕ, zero, suc, _≤_, _<_}
+use Prim.Native.Nat.{ℕ, _≤_, _<_}
 use native.Mathlib.Omega.{arith}
-use mathlib.Core.Path.{_≡_, refl, sym, ap}
+use mathlib.Core.Path.{_≡_, sym, ap}
 use mathlib.Core.Bool.{false, cond}
-use mathlib.Core.List.{List, [], _∷_}
-use lib.ListN.{length, getD}
+use mathlib.Core.List.{List}
+use lib.ListN.{length, getD, List·getD-eq-default}
 use lib.Dec.{ltb}
 use borrow.Author.Tests.{lt-ltb, le-ltb}
 use Rattle.rules.specs.declared.ProcState.the-variants.{UNUSED}
@@ -19,14 +19,9 @@ use Rattle.rules.specs.Model.{at, hartAt, groupAt, noGroup, free, pid, slot}
 use Rattle.words.specs.Reading.{tableOf}
 use Rattle.words.proofs.Facts.{slots-count, groups-count, harts-count}
 
-past : {A : Type 0} (l : List A) (i : ℕ) (d : A) → length l ≤ i → getD l i d ≡ d
-past [] i d b = refl
-past (x ∷ l) zero d b = absurd (omega arith)
-past (x ∷ l) (suc i) d b = past l i d (omega arith)
-
 module _ (w : List ℕ) where
   slot-past : (s : ℕ) → slotCount ≤ s → free ≡ at (tableOf w .core) s
-  slot-past s b = sym (past (tableOf w .core .slots) s free (omega (arith, b, slots-count w)))
+  slot-past s b = sym (List·getD-eq-default (tableOf w .core .slots) free (omega (arith, b, slots-count w)))
 
   pub meta-past : (s : ℕ) → slotCount ≤ s → _≡_ {A = ProcMeta} (record { state = UNUSED; channel = 0; killed = false; xstate = 0; pid = pid 0; queued = false }) (at (tableOf w .core) s .meta)
   unfolding free
@@ -37,10 +32,10 @@ module _ (w : List ℕ) where
   kin-past s b = ap (λ (p : Process). p .kin) (slot-past s b)
 
   pub hart-past : (h : ℕ) → hartCount ≤ h → Nobody ≡ hartAt (tableOf w .core) h
-  hart-past h b = sym (past (tableOf w .core .harts) h Nobody (omega (arith, b, harts-count w)))
+  hart-past h b = sym (List·getD-eq-default (tableOf w .core .harts) Nobody (omega (arith, b, harts-count w)))
 
   pub group-past : (g : ℕ) → groupCount ≤ g → 0 ≡ groupAt (tableOf w .books) g .size
-  group-past g b = ap (λ (x : Group). x .size) (sym (past (tableOf w .books .groups) g noGroup (omega (arith, b, groups-count w))))
+  group-past g b = ap (λ (x : Group). x .size) (sym (List·getD-eq-default (tableOf w .books .groups) noGroup (omega (arith, b, groups-count w))))
 
 module _ (q : List ℕ) (k : ℕ) where
   pub queue-past : length q ≤ k → Nobody ≡ cond (ltb k (length q)) (Of (slot (getD q k 0))) Nobody

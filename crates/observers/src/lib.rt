@@ -1,11 +1,12 @@
 // What a user of the table may ask without changing it. A slot, group or hart that the table does not have is as a free one.
 ghost use mathlib.Core.Path.{_≡_};
 ghost use mathlib.Core.Bool.{cond};
+ghost use Prim.Native.Nat.{_≤_};
 ghost use lib.ListN.{length, getD};
 ghost use lib.Dec.{ltb};
 ghost use Rattle.rules.specs.declared.Parent.the-variants.{Nobody, Of};
+ghost use Rattle.rules.specs.Sizes.{slotCount};
 ghost use Rattle.rules.specs.Model.{at, hartAt, groupAt, slot};
-ghost use Rattle.promises.specs.Order.Sound.{Sound};
 ghost use Rattle.words.specs.Reading.{tableOf};
 use rules::Kin;
 use rules::Member;
@@ -150,7 +151,7 @@ pub fn queue_len(t: &[u64; Table::WORDS]) -> usize
 
 // The slot with k ahead of it, if there is one.
 pub fn queued(t: &[u64; Table::WORDS], k: usize) -> Parent
-    requires { ⌜ Sound (tableOf (now t)) ⌝ }
+    requires { ⌜ length (tableOf (now t) .core .queue) ≤ slotCount ⌝ }
     ensures { λ r. ⌜ r ≡ cond (ltb k (length (tableOf (now (t .entry)) .core .queue))) (Of (slot (getD (tableOf (now (t .entry)) .core .queue) k 0))) Nobody ⌝ }
 {
     if k >= queue_len(t) {

@@ -9,6 +9,10 @@ use Rattle.rules.specs.declared.Parent.{Parent}
 use Rattle.rules.specs.declared.Parent.the-variants.{Nobody, Of}
 use Rattle.rules.specs.Listing.{bytes, digits}
 
+-- a number below 2^64 has so many digits at most
+abbrev pub numberTop : ℕ
+numberTop = 20
+
 unfoldable pub signedDigits : ℤ → List ℕ
 signedDigits (pos n) = digits n
 signedDigits (negsuc n) = bytes "-" ++ digits (suc n)

@@ -1,32 +1,32 @@
-// The pieces of a text. A number takes 20 bytes at most.
+// The pieces of a text.
 ghost use mathlib.Core.Path.{_≡_};
 ghost use mathlib.Core.List.{[], _∷_, _++_};
 ghost use Prim.Native.Nat.{_+_, _*_, _/_, _%_, _<_, _≤_};
 ghost use lib.ListN.{length};
 ghost use Rattle.rules.specs.Listing.{digits};
 ghost use Rattle.buffers.specs.Text.{Wrote};
-ghost use Rattle.pieces.specs.Pieces.{signedDigits, flagText, placeText, hexDigit, hexText};
+ghost use Rattle.pieces.specs.Pieces.{numberTop, signedDigits, flagText, placeText, hexDigit, hexText};
 use labels::digits;
 use rules::Parent;
 
 fn write_number(out: &mut [u8], at: usize, n: u64) -> usize
-    requires { ⌜ at + 20 ≤ length (now out) ⌝ }
-    ensures { λ r. ⌜ Wrote (now (out .entry)) at (digits n) (now (out .exit)) r × (r ≤ at + 20) ⌝ }
+    requires { ⌜ at + numberTop ≤ length (now out) ⌝ }
+    ensures { λ r. ⌜ Wrote (now (out .entry)) at (digits n) (now (out .exit)) r × (r ≤ at + numberTop) ⌝ }
 {
     digits::write(out, at, n)
 }
 
 pub fn write_field(out: &mut [u8], at: usize, label: &[u8], n: u64) -> usize
-    requires { ⌜ at + length (now label) + 20 ≤ length (now out) ⌝ }
-    ensures { λ r. ⌜ Wrote (now (out .entry)) at (now (label .entry) ++ digits n) (now (out .exit)) r × (r ≤ at + length (now (label .entry)) + 20) ⌝ }
+    requires { ⌜ at + length (now label) + numberTop ≤ length (now out) ⌝ }
+    ensures { λ r. ⌜ Wrote (now (out .entry)) at (now (label .entry) ++ digits n) (now (out .exit)) r × (r ≤ at + length (now (label .entry)) + numberTop) ⌝ }
 {
     let on = buffers::write(out, at, label);
     write_number(out, on, n)
 }
 
 pub fn write_signed(out: &mut [u8], at: usize, x: i32) -> usize
-    requires { ⌜ at + 21 ≤ length (now out) ⌝ }
-    ensures { λ r. ⌜ Wrote (now (out .entry)) at (signedDigits x) (now (out .exit)) r × (r ≤ at + 21) ⌝ }
+    requires { ⌜ at + 1 + numberTop ≤ length (now out) ⌝ }
+    ensures { λ r. ⌜ Wrote (now (out .entry)) at (signedDigits x) (now (out .exit)) r × (r ≤ at + 1 + numberTop) ⌝ }
 {
     if x < 0 {
         return write_field(out, at, b"-", (-1 - x) as u64 + 1);
@@ -46,8 +46,8 @@ pub fn write_flag(out: &mut [u8], at: usize, label: &[u8], b: bool) -> usize
 }
 
 pub fn write_place(out: &mut [u8], at: usize, label: &[u8], p: Parent) -> usize
-    requires { ⌜ at + length (now label) + 20 ≤ length (now out) ⌝ }
-    ensures { λ r. ⌜ Wrote (now (out .entry)) at (now (label .entry) ++ placeText p) (now (out .exit)) r × (r ≤ at + length (now (label .entry)) + 20) ⌝ }
+    requires { ⌜ at + length (now label) + numberTop ≤ length (now out) ⌝ }
+    ensures { λ r. ⌜ Wrote (now (out .entry)) at (now (label .entry) ++ placeText p) (now (out .exit)) r × (r ≤ at + length (now (label .entry)) + numberTop) ⌝ }
 {
     let on = buffers::write(out, at, label);
     match p {

@@ -3,4 +3,7 @@ pub mod Shape
 pub mod Walks
 pub mod Exits
 pub mod RefusalTable
+pub mod SomeSlot
+pub mod Refusals
+pub mod Ended
 pub mod Steps

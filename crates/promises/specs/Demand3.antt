@@ -15,12 +15,14 @@ use Rattle.rules.specs.Model.{Core, Table, at, hartAt, is, isSlot, slot}
 use Rattle.rules.specs.Moves.{change, hand, sleepsOn}
 use Rattle.rules.specs.Calls.{refuse, Outcome, gives, moves, refuseIf, handNext, dispatched, childOf, zombieChildOf}
 use Rattle.rules.specs.Runs.{Call, dispatch, step}
-use Rattle.promises.specs.Laws.Lists.{and-both, clash, ind, ind-small, tally-two, Stands, tally-stands}
+use Rattle.promises.specs.Laws.Bools.{and-both, clash}
+use Rattle.promises.specs.Laws.Counts.{ind, ind-small, tally-two, Stands, tally-stands}
 use Rattle.promises.specs.Order.Sound.{Sound, Lives}
 use Rattle.promises.specs.Order.Room.{queued-runnable}
 use Rattle.promises.specs.Order.States.{runs-running}
 use Rattle.promises.specs.FirstOut.{queued-once}
-use Rattle.promises.specs.Calls.Steps.{Fair, Ended, refused, spentOn, handed, granted, step-ends}
+use Rattle.promises.specs.Calls.Ended.{Fair, Ended, refused, spentOn, handed, granted}
+use Rattle.promises.specs.Calls.Steps.{step-ends}
 use Rattle.promises.specs.Reached.{reached, reached-sound}
 
 -- a slot that sleeps in wait: on its own channel
@@ -117,8 +119,8 @@ pub record Granted (c : Call) : Type 0 where
 
 ended-handed : {c : Call} {t : Table} {o : Outcome} (s : Slot) → Ended c t o → o .answer ≡ Handed s → Granted c
 unfolding refuse gives moves
-ended-handed s (refused _ _ _) e = let z : _≡_ {A = ℕ} 0 1 = cc in absurd (omega arith)
-ended-handed s (spentOn _ _ _ _) e = let z : _≡_ {A = ℕ} 0 1 = cc in absurd (omega arith)
+ended-handed s (refused _ _) e = let z : _≡_ {A = ℕ} 0 1 = cc in absurd (omega arith)
+ended-handed s (spentOn _ _ _) e = let z : _≡_ {A = ℕ} 0 1 = cc in absurd (omega arith)
 ended-handed s (handed h _ _ e _ _ _) _ = record { hart = h; call = e }
 ended-handed {t = t} s (granted a u f _) e = absurd (subst (λ (x : Answer). Fair t x u) e f)
 

@@ -1,19 +1,19 @@
 -- Document 01's five empty programs, each shut out by the definition or the promise that it names.
-use Prim.Native.Nat.{ℕ, _<_}
+use Prim.Native.Nat.{ℕ}
 use native.Mathlib.Omega.{arith}
 use mathlib.Core.Path.{_≡_, refl, sym, ap, _∙_}
 use mathlib.Core.Bool.{Bool, true, false, cond}
 use mathlib.Core.List.{List, [], _∷_}
 use lib.ListN.{length}
 use Rattle.promises.specs.Types.{Slot, UNUSED, Refusal, NoRoom, Made, Handed, Refused, Room, Fits, Short}
-use Rattle.rules.specs.Sizes.{hartCount}
 use Rattle.rules.specs.Model.{Table, at, is, pid, slot}
 use Rattle.rules.specs.Calls.{Outcome}
 use Rattle.rules.specs.Listing.{listing, fitsIn, roomFor}
 use Rattle.rules.specs.Runs.{Call, boot, start, fork, dispatch, yield, step}
 use Rattle.rules.specs.Open.{everything}
 use Rattle.rules.specs.Worked.{up}
-use Rattle.promises.specs.Laws.Lists.{clash}
+use Rattle.promises.specs.Laws.Bools.{clash}
+use Rattle.promises.specs.Laws.Numbers.{some-hart}
 use Rattle.promises.specs.Demand3.{Dispatched, DispatchRule}
 use Rattle.promises.specs.Reached.{reached}
 
@@ -47,18 +47,14 @@ refuses-all-defined f r m =
     let e : Refused (r .why (reached []) boot) ≡ Made (pid 1) = sym (r .refuses (reached []) boot) ∙ ap (λ (o : Outcome). o .answer) (m .same [] boot) ∙ boots in
     let z : _≡_ {A = ℕ} 0 1 = cc in omega arith
 
-hart-zero : 0 < hartCount
-unfolding hartCount
-hart-zero = omega arith
-
 -- what demand 3 asks of the first dispatch where slot 0 waits, and where slot 1 waits before it
 one-granted : (f : Table → Call → Outcome) → DispatchRule f → Dispatched (f (reached waiting) (dispatch 0)) 0 0 []
 unfolding DispatchRule everything
-one-granted f d = d waiting 0 0 [] hart-zero refl refl
+one-granted f d = d waiting 0 0 [] some-hart refl refl
 
 two-granted : (f : Table → Call → Outcome) → DispatchRule f → Dispatched (f (reached two-waiting) (dispatch 0)) 0 1 (0 ∷ [])
 unfolding DispatchRule everything
-two-granted f d = d two-waiting 0 1 (0 ∷ []) hart-zero refl refl
+two-granted f d = d two-waiting 0 1 (0 ∷ []) some-hart refl refl
 
 pub refuses-all-dispatch : (f : Table → Call → Outcome) → RefusesAll f → DispatchRule f → ⊥
 refuses-all-dispatch f r d =

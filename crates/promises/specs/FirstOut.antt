@@ -13,10 +13,11 @@ use Rattle.rules.specs.Model.{Table, at, is}
 use Rattle.rules.specs.Moves.{hand}
 use Rattle.rules.specs.Calls.{Outcome, gives, moves, refuse, spent}
 use Rattle.rules.specs.Runs.{Call, step, run, runBy}
-use Rattle.promises.specs.Laws.Lists.{ind-small, tally-two}
+use Rattle.promises.specs.Laws.Counts.{ind-small, tally-two}
 use Rattle.promises.specs.Order.Sound.{Sound}
 use Rattle.promises.specs.Order.Kept.{chain-grows}
-use Rattle.promises.specs.Calls.Steps.{Fair, Ended, refused, spentOn, handed, granted, step-ends}
+use Rattle.promises.specs.Calls.Ended.{Fair, Ended, refused, spentOn, handed, granted}
+use Rattle.promises.specs.Calls.Steps.{step-ends}
 use Rattle.promises.specs.Reached.{step-sound, reached, reached-sound}
 
 -- the slots that answers hand out, in order: one for each successful dispatch
@@ -49,8 +50,8 @@ fair-none t u (Refused r) f = absurd f
 
 ended-flows : {c : Call} {t : Table} {o : Outcome} → Ended c t o → Flows (t .core .queue) (handedBy (o .answer)) (o .table .core .queue)
 unfolding refuse gives moves spent hand
-ended-flows {t = t} (refused _ _ _) = record { new = []; split = append-nil (t .core .queue) }
-ended-flows {t = t} (spentOn _ _ _ _) = record { new = []; split = append-nil (t .core .queue) }
+ended-flows {t = t} (refused _ _) = record { new = []; split = append-nil (t .core .queue) }
+ended-flows {t = t} (spentOn _ _ _) = record { new = []; split = append-nil (t .core .queue) }
 ended-flows {t = t} (handed h s rest _ q _ _) = record { new = []; split = append-nil (t .core .queue) ∙ q }
 ended-flows {t = t} (granted a u f m) = record { new = chain-grows m .new; split = rw (fair-none t u a f) (sym (chain-grows m .split)) }
 

@@ -14,10 +14,12 @@ use Rattle.rules.specs.Model.{Table, at, groupAt, free, is, fresh, pid}
 use Rattle.rules.specs.Moves.{lowest, slay, spend}
 use Rattle.rules.specs.Calls.{Outcome, gives, moves, refuse, spent, found, hasPid, killed}
 use Rattle.rules.specs.Runs.{Call, kill, step, run, runBy}
-use Rattle.promises.specs.Laws.Lists.{and-left, and-right, tally}
+use Rattle.promises.specs.Laws.Bools.{and-left, and-right}
+use Rattle.promises.specs.Laws.Counts.{tally}
 use Rattle.promises.specs.Laws.Scans.{lowest-passes}
 use Rattle.promises.specs.Order.Sound.{names, Sound}
-use Rattle.promises.specs.Calls.Steps.{Fair, Ended, refused, spentOn, handed, granted, step-ends}
+use Rattle.promises.specs.Calls.Ended.{Fair, Ended, refused, spentOn, handed, granted}
+use Rattle.promises.specs.Calls.Steps.{step-ends}
 use Rattle.promises.specs.Reached.{step-sound, reached, reached-sound, fresh-sound}
 
 pub record Ledger (t : Table) : Type 0 where
@@ -96,8 +98,8 @@ fair-rises t u (Refused r) l k f w = absurd f
 
 ended-rises : {c : Call} {t : Table} {o : Outcome} (l : List ℕ) (k : ℕ) → Ended c t o → Rises (o .table .books .pids) l k → Rises (t .books .pids) (givenBy (o .answer) ++ l) k
 unfolding refuse gives moves spent spend
-ended-rises l k (refused _ _ _) w = w
-ended-rises {t = t} l k (spentOn _ _ _ _) w = rises-more (t .books .pids) (t .books .pids + 1) k l (omega arith) w
+ended-rises l k (refused _ _) w = w
+ended-rises {t = t} l k (spentOn _ _ _) w = rises-more (t .books .pids) (t .books .pids + 1) k l (omega arith) w
 ended-rises l k (handed _ _ _ _ _ _ _) w = w
 ended-rises {t = t} l k (granted a u f _) w = fair-rises t u a l k f w
 

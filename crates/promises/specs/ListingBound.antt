@@ -34,7 +34,7 @@ name-short (x ∷ l) = go (eqb x 0) refl (name-short l)
     go false e h = rw (e, upToZero) (omega arith)
 
 pub line-short : (p : Process) → length (p .start .name) ≤ nameSize → length (lineOf p) ≤ lineTop
-unfolding lineOf bytes nameSize lineTop
+unfolding lineOf bytes lineTop
 line-short p h =
     simp (length-append, length-map) (omega (arith, digits-length (p .meta .pid .0), state-short (p .meta .state), name-short (p .start .name)))
 

@@ -6,7 +6,7 @@ use mathlib.Core.List.{List, [], _∷_, map}
 use lib.ListN.{replicate}
 use lib.IntN.{pos, negsuc}
 use Rattle.promises.specs.Types.{Mapped, NotWanted, Writable, Unwritable, NoSuchHart, HartIdle, HartBusy, QueueEmpty, TableFull, PidsSpent, NoGroup, BadAddress, Unmapped, NoneSuch, StatusUnwritable, InitOutOfTurn, WrongWayOut, NotADevice, NameTooLong, NoRoom, SizeOutOfLimits, NoMemory, Answer, Done, Made, Handed, Reaped, Joined, Blocked, Refused, Fits}
-use Rattle.rules.specs.Sizes.{firstDevice, kernelStack, userSp, systemSp, threadTrapframe, hartCount, pidTop, nameSize, listingTop}
+use Rattle.rules.specs.Sizes.{slotCount, groupCount, hartCount, firstDevice, nameSize, pidTop, pageSize, trampoline, trapframe, kernelStack, userSp, systemSp, threadTrapframe, sizeTop, listingTop}
 use Rattle.rules.specs.Answers.{numberOf}
 use Rattle.rules.specs.Model.{pid, slot}
 use Rattle.rules.specs.Listing.{bytes}
@@ -39,6 +39,14 @@ moreRuns =
     ∷ threadOn 0 0 0 1 (record { entry = false; ret = true; stack = true; top = true }) ∷ threadOn 0 0 0 1 (record { entry = true; ret = false; stack = true; top = true })
     ∷ threadOn 0 0 0 1 (record { entry = true; ret = true; stack = false; top = true }) ∷ threadOn 0 0 0 1 (record { entry = true; ret = true; stack = true; top = false }) ∷ threadOn 0 4096 8191 8191 mapped ∷ []))
     (Refused BadAddress ∷ Refused BadAddress ∷ Refused BadAddress ∷ Refused Unmapped ∷ Refused Unmapped ∷ Refused Unmapped ∷ Refused Unmapped ∷ Made (pid 2) ∷ []) (1 ∷ [])
+    -- the queue is empty
+    ∷ plain (dispatch 0 ∷ []) (Refused QueueEmpty ∷ []) []
+    -- of two ZOMBIE children the lower, though it died later
+    ∷ plain (up (fork 0 true ∷ fork 0 true ∷ dispatch 1 ∷ dispatch 2 ∷ exit 2 5 ∷ exit 1 6 ∷ wait 0 NotWanted ∷ wait 0 NotWanted ∷ [])) (Reaped (pid 2) 6 ∷ Reaped (pid 3) 5 ∷ []) []
+    -- join: never the caller, and a killed one waits all the same
+    ∷ plain (up (ask 0 0 ∷ dispatch 1 ∷ join 1 (pid 2) NotWanted ∷ kill (pid 1) ∷ join 0 (pid 2) NotWanted ∷ [])) (Refused NoneSuch ∷ Done ∷ Blocked ∷ []) []
+    -- exit marks a RUNNING thread killed: with a live child it waits no more
+    ∷ plain (up (fork 0 true ∷ dispatch 1 ∷ threadOn 1 0 0 1 mapped ∷ dispatch 2 ∷ fork 2 true ∷ exit 1 0 ∷ wait 2 NotWanted ∷ [])) (Made (pid 4) ∷ Blocked ∷ Refused NoneSuch ∷ []) (3 ∷ [])
     -- names
     ∷ record {
       calls = spawn (replicate 17 65) 0 ∷ spawn (replicate 16 65) 0 ∷ spawn (31 ∷ 32 ∷ 126 ∷ 127 ∷ 0 ∷ 65 ∷ []) 0 ∷ [];
@@ -76,6 +84,7 @@ pub addresses : kernelStack 0 ∷ kernelStack 63 ∷ userSp 0 ∷ systemSp 0 ∷
 unfolding everything
 addresses = refl
 
-pub sizes : hartCount ∷ nameSize ∷ pidTop ∷ listingTop ∷ [] ≡ 8 ∷ 16 ∷ 18446744073709551615 ∷ 4224 ∷ []
+pub sizes : slotCount ∷ groupCount ∷ hartCount ∷ firstDevice ∷ nameSize ∷ pidTop ∷ pageSize ∷ trampoline ∷ trapframe ∷ sizeTop ∷ listingTop ∷ []
+    ≡ 64 ∷ 64 ∷ 8 ∷ 65 ∷ 16 ∷ 18446744073709551615 ∷ 4096 ∷ 274877902848 ∷ 274877898752 ∷ 274877636608 ∷ 4224 ∷ []
 unfolding everything
 sizes = refl

@@ -11,4 +11,5 @@ pub mod NumberedKept
 pub mod CountedKept
 pub mod TidyKept
 pub mod AsleepKept
+pub mod RaisedKept
 pub mod Kept

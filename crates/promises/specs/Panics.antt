@@ -6,13 +6,14 @@ use mathlib.Core.Bool.{Bool, true, false}
 use mathlib.Core.List.{List, _∷_}
 use lib.ListN.{length, getD}
 use lib.Dec.{eqb}
-use Rattle.promises.specs.Types.{ProcState, UNUSED, ALLOCATED, RUNNABLE, RUNNING, SLEEPING, ZOMBIE, Parent, Nobody, Member, Process}
+use Rattle.promises.specs.Types.{ProcState, UNUSED, ALLOCATED, RUNNABLE, RUNNING, SLEEPING, ZOMBIE, Parent, Nobody, Member, Alone, Process}
 use Rattle.rules.specs.Sizes.{slotCount}
 use Rattle.rules.specs.Model.{Table, at, free, is, isSlot, known, stateCode}
 use Rattle.rules.specs.Moves.{reparent}
 use Rattle.rules.specs.Calls.{reapThreads}
 use Rattle.rules.specs.Runs.{Call}
-use Rattle.promises.specs.Laws.Lists.{clash, ind, tally}
+use Rattle.promises.specs.Laws.Bools.{clash}
+use Rattle.promises.specs.Laws.Counts.{ind, tally}
 use Rattle.promises.specs.Order.Sound.{isIn, Sound}
 use Rattle.promises.specs.Order.States.{other, head-ready, runs-running, runs-used}
 use Rattle.promises.specs.Order.Room.{queue-fits, queue-room}
@@ -57,12 +58,13 @@ module _ (t : Table) (w : Sound t) where
       go false u true f = absurd (clash k (ap known (w .tidy i .lone f .1)))
       go false u false f = w .tidy i .after u f
 
-  zombie-has-group : (s : ℕ) → is ZOMBIE (at (t .core) s) ≡ true → isIn (at (t .core) s .kin .group) ≡ true
-  zombie-has-group s z = go (at (t .core) s .kin .system) refl
+  -- a ZOMBIE is no system thread
+  zombie-user : (s : ℕ) → is ZOMBIE (at (t .core) s) ≡ true → at (t .core) s .kin .system ≡ false
+  zombie-user s z = go (at (t .core) s .kin .system) refl
     where
-      go : (b : Bool) → at (t .core) s .kin .system ≡ b → isIn (at (t .core) s .kin .group) ≡ true
+      go : (b : Bool) → at (t .core) s .kin .system ≡ b → b ≡ false
       go true y = absurd (clash z (w .tidy s .lone y .3))
-      go false y = w .tidy s .group (other ZOMBIE UNUSED (at (t .core) s) z) y
+      go false y = refl
 
   -- "Fail to find parent process": where exit reads the parent, after the threads are reaped and the children handed over, there is one
   exit-has-parent : (h s : ℕ) → runs t h s → at (t .core) s .kin .system ≡ false → isSlot s (t .books .init) ≡ false
@@ -104,8 +106,12 @@ pub record NoPanic (t : Table) : Type 0 where
   pub dispatches : (s : ℕ) (rest : List ℕ) → t .core .queue ≡ s ∷ rest → (is RUNNABLE (at (t .core) s) ≡ true) × (at (t .core) s .meta .queued ≡ true)
   pub groups : (s : ℕ) → s < length (t .core .slots) → is UNUSED (at (t .core) s) ≡ true → Empty (t .books)
   pub heirs : (i : ℕ) → known (at (t .core) i .kin .parent) ≡ true → known (t .books .init) ≡ true
-  -- "user process has no address space": whoever is ZOMBIE, and so may be freed, has a group
-  pub spaces : (s : ℕ) → is ZOMBIE (at (t .core) s) ≡ true → isIn (at (t .core) s .kin .group) ≡ true
+  -- "exiting process has no address space", "user process has no address space": whoever is no system thread has a group; and only such a slot is ZOMBIE
+  pub spaces : (s : ℕ) → is UNUSED (at (t .core) s) ≡ false → at (t .core) s .kin .system ≡ false → isIn (at (t .core) s .kin .group) ≡ true
+  pub zombies : (s : ℕ) → is ZOMBIE (at (t .core) s) ≡ true → at (t .core) s .kin .system ≡ false
+  -- the asserts: a slot that is taken or freed is not marked queued, and a system thread has no address space
+  pub marked : (s : ℕ) → at (t .core) s .meta .queued ≡ is RUNNABLE (at (t .core) s)
+  pub alone : (s : ℕ) → at (t .core) s .kin .system ≡ true → at (t .core) s .kin .group ≡ Alone
   pub parents : (h s : ℕ) → runs t h s → at (t .core) s .kin .system ≡ false → isSlot s (t .books .init) ≡ false
       → let u = reapThreads (at (t .core) s .kin .group) t in known (at (reparent (u .books .init) s (u .core)) s .kin .parent) ≡ true
 
@@ -117,7 +123,10 @@ sound-no-panic t w = record {
   groups = group-found t w;
   heirs = heir-known t w;
   parents = exit-has-parent t w;
-  spaces = zombie-has-group t w;
+  spaces = λ s. w .tidy s .group;
+  zombies = zombie-user t w;
+  marked = w .queued .flag;
+  alone = λ s y. w .tidy s .lone y .0;
 }
 
 pub no-panic : (cs : List Call) → NoPanic (reached cs)

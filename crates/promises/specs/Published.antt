@@ -10,8 +10,10 @@ use Rattle.rules.specs.Sizes.{slotCount}
 use Rattle.rules.specs.Model.{Core, Table, at, free, taken, is, onMeta, asRunnable, withParent}
 use Rattle.rules.specs.Moves.{change, publish, idle, yieldOn, sleepOn, zombieOn, publishIf, sleepsOn, wakeOne, wake, wakeOf, reap}
 use Rattle.rules.specs.Calls.{fill, spent}
-use Rattle.promises.specs.Laws.Lists.{and-left, clash, all-set, rel-set}
-use Rattle.promises.specs.Laws.Scans.{wakeOf-any, sweep-keeps}
+use Rattle.promises.specs.Laws.Bools.{and-left, clash}
+use Rattle.promises.specs.Laws.Lists.{all-set, rel-set}
+use Rattle.promises.specs.Order.Wakes.{wakeOf-any}
+use Rattle.promises.specs.Laws.Scans.{sweep-keeps}
 use Rattle.promises.specs.Order.Sound.{Sound}
 use Rattle.promises.specs.Order.States.{runs-running}
 use Rattle.promises.specs.Order.Chains.{onCore, Move, publishing, yielding, sleeping, dying, marking, adopting, spending, filling, freeing, returning, resizing}

@@ -1,5 +1,5 @@
 -- A fresh table is sound, each call keeps it so, and so every table that calls make of a fresh one is sound.
-use Prim.Native.Nat.{ℕ, zero, suc}
+use Prim.Native.Nat.{ℕ}
 use native.Mathlib.Omega.{arith}
 use mathlib.Core.Path.{_≡_, refl, sym, ap, _∙_}
 use mathlib.Core.Bool.{true, false}
@@ -11,20 +11,18 @@ use Rattle.rules.specs.Model.{Table, at, noGroup, free, is, isSlot, fresh}
 use Rattle.rules.specs.Moves.{sleepsOn}
 use Rattle.rules.specs.Calls.{Outcome, gives, moves, refuse}
 use Rattle.rules.specs.Runs.{Call, step, run, runBy}
-use Rattle.promises.specs.Laws.Lists.{and-left, clash, tally, tally-none}
-use Rattle.promises.specs.Order.Sound.{names, Queued, Numbered, Counted, Asleep, Sound}
+use Rattle.promises.specs.Laws.Lists.{same-all}
+use Rattle.promises.specs.Laws.Bools.{and-left, clash}
+use Rattle.promises.specs.Laws.Counts.{tally, tally-none}
+use Rattle.promises.specs.Order.Sound.{names, Queued, Numbered, Counted, Asleep, Raised, Sound}
 use Rattle.promises.specs.Order.States.{other, free-unused}
 use Rattle.promises.specs.Order.Chains.{onCore, spending, one}
 use Rattle.promises.specs.Order.TidyKept.{tidy-free}
 use Rattle.promises.specs.Order.Kept.{chain-sound, hand-sound}
-use Rattle.promises.specs.Calls.Steps.{Ended, refused, spentOn, handed, granted, step-ends}
+use Rattle.promises.specs.Calls.Ended.{Ended, refused, spentOn, handed, granted}
+use Rattle.promises.specs.Calls.Steps.{step-ends}
 
 -- ---- the fresh table
-same-all : {A : Type 0} (n : ℕ) (a : A) (i : ℕ) → getD (replicate n a) i a ≡ a
-same-all zero a i = refl
-same-all (suc n) a zero = refl
-same-all (suc n) a (suc i) = same-all n a i
-
 fresh-at : (s : ℕ) → at (fresh .core) s ≡ free
 unfolding fresh
 fresh-at s = same-all slotCount free s
@@ -66,6 +64,10 @@ fresh-asleep = record { waits = λ s j e. absurd (awake (ownChannel s) s e); joi
     awake : (ch s : ℕ) → sleepsOn ch (at (fresh .core) s) ≡ true → ⊥
     awake ch s e = clash (and-left _ _ e) (ap (is SLEEPING) (fresh-at s) ∙ other UNUSED SLEEPING free free-unused)
 
+fresh-raised : Raised (fresh .core)
+unfolding fresh free
+fresh-raised = record { elder = λ s q e. absurd (clash {b = false} (rw (same-all slotCount free s) at e) refl) }
+
 pub fresh-sound : Sound fresh
 fresh-sound = record {
   queued = fresh-queued;
@@ -73,13 +75,14 @@ fresh-sound = record {
   tidy = λ s. rw (fresh-at s) (tidy-free (fresh .books .init) s (unfold fresh in refl));
   counted = fresh-counted;
   asleep = fresh-asleep;
+  raised = fresh-raised;
 }
 
 -- ---- each call
 ended-sound : {c : Call} {t : Table} {o : Outcome} → Sound t → Ended c t o → Sound (o .table)
 unfolding refuse gives moves onCore
-ended-sound w (refused _ _ _) = w
-ended-sound w (spentOn _ _ _ l) = chain-sound w (one (spending l))
+ended-sound w (refused _ _) = w
+ended-sound w (spentOn _ _ l) = chain-sound w (one (spending l))
 ended-sound {t = t} w (handed h s rest _ q r e) = hand-sound t h s rest w q r e
 ended-sound w (granted _ _ _ m) = chain-sound w m
 

@@ -1,8 +1,8 @@
--- A refusal changes nothing but the pid counter under 5 and fork's 18, and there by exactly one; each number is given only by the calls that its line names.
+-- A call is refused when, and only when, a line of document 01's table holds, with the first number in its order; a refusal changes nothing but the pid counter under 5 and fork's 18, and there by exactly one.
 use Prim.Native.Nat.{ℕ, _+_}
 use native.Mathlib.Omega.{arith}
 use mathlib.Core.Path.{_≡_, refl, subst}
-use mathlib.Core.Bool.{true, cond}
+use mathlib.Core.Bool.{cond}
 use mathlib.Core.List.{List}
 use Rattle.promises.specs.Types.{Refusal, Answer, Refused}
 use Rattle.rules.specs.Answers.{numberOf}
@@ -10,23 +10,26 @@ use Rattle.rules.specs.Model.{Table}
 use Rattle.rules.specs.Moves.{spend}
 use Rattle.rules.specs.Calls.{Outcome, gives, moves, refuse, spent}
 use Rattle.rules.specs.Runs.{Call, step}
-use Rattle.promises.specs.Calls.Steps.{Fair, Ended, refused, spentOn, handed, granted, step-ends}
-use Rattle.promises.specs.Calls.RefusalTable.{mayGive, among, spendsPid}
+use Rattle.promises.specs.Calls.Ended.{Fair, Ended, refused, spentOn, handed, granted}
+use Rattle.promises.specs.Calls.Steps.{step-ends}
+use Rattle.promises.specs.Calls.RefusalTable.{linesOf, order, firstOf, refusalOf, spendsPid}
+use Rattle.promises.specs.Calls.Refusals.{Right, step-when}
 use Rattle.promises.specs.Reached.{reached, reached-sound}
 
--- what a call that was refused with r leaves
-pub record Unharmed (c : Call) (t : Table) (r : Refusal) (u : Table) : Type 0 where
-  pub table : u ≡ cond (spendsPid c (numberOf r)) (spent t) t
-  pub named : among (numberOf r) (mayGive c) ≡ true
+pub refused-when : (cs : List Call) (c : Call) → refusalOf (step (reached cs) c .answer) ≡ firstOf order (linesOf (reached cs) c)
+unfolding Right
+refused-when cs c = step-when (reached cs) (reached-sound cs) c
 
-ended-unharmed : {c : Call} {t : Table} {o : Outcome} (r : Refusal) → Ended c t o → o .answer ≡ Refused r → Unharmed c t r (o .table)
+-- ---- what a refusal leaves
+ended-unharmed : {c : Call} {t : Table} {o : Outcome} (r : Refusal) → Ended c t o → o .answer ≡ Refused r → o .table ≡ cond (spendsPid c (numberOf r)) (spent t) t
 unfolding refuse gives moves
-ended-unharmed {c} {t} r (refused q n s) e = let z : q ≡ r = cc in record { table = rw (← z, s); named = rw (← z) n }
-ended-unharmed {c} {t} r (spentOn q n s _) e = let z : q ≡ r = cc in record { table = rw (← z, s); named = rw (← z) n }
-ended-unharmed {c} {t} r (handed _ _ _ _ _ _ _) e = let z : _≡_ {A = ℕ} 0 1 = cc in absurd (omega arith)
-ended-unharmed {c} {t} r (granted a u f _) e = absurd (subst (λ (x : Answer). Fair t x u) e f)
+ended-unharmed r (refused q s) e = let z : q ≡ r = cc in rw (← z, s)
+ended-unharmed r (spentOn q s _) e = let z : q ≡ r = cc in rw (← z, s)
+ended-unharmed r (handed _ _ _ _ _ _ _) e = let z : _≡_ {A = ℕ} 0 1 = cc in absurd (omega arith)
+ended-unharmed {t = t} r (granted a u f _) e = absurd (subst (λ (x : Answer). Fair t x u) e f)
 
-pub refusal-unharmed : (cs : List Call) (c : Call) (r : Refusal) → step (reached cs) c .answer ≡ Refused r → Unharmed c (reached cs) r (step (reached cs) c .table)
+pub refusal-unharmed : (cs : List Call) (c : Call) (r : Refusal) → step (reached cs) c .answer ≡ Refused r
+    → step (reached cs) c .table ≡ cond (spendsPid c (numberOf r)) (spent (reached cs)) (reached cs)
 refusal-unharmed cs c r e = ended-unharmed r (step-ends (reached cs) (reached-sound cs) c) e
 
 -- what it means that the pid is spent: the counter goes up by one, and all else stays

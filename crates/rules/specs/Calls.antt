@@ -8,6 +8,7 @@ use lib.Dec.{eqb, leb, ltb}
 use lib.IntN.{ℤ, pos, negsuc, _+ℤ_}
 use Rattle.rules.specs.Types.{Pid, UNUSED, ALLOCATED, ZOMBIE, Parent, Nobody, Of, Member, Alone, In, Process, Wish, NotWanted, Writable, Unwritable, ThreadAsk, Mapped, Refusal, NoSuchHart, HartIdle, HartBusy, QueueEmpty, TableFull, PidsSpent, NoGroup, BadAddress, Unmapped, NoneSuch, StatusUnwritable, InitOutOfTurn, WrongWayOut, NotADevice, NameTooLong, SizeOutOfLimits, NoMemory, Answer, Done, Made, Handed, Reaped, Joined, Blocked, Refused}
 use Rattle.rules.specs.Sizes.{slotCount, hartCount, pidTop, addressTop, nameSize, pageSize, trapframe, userSp, systemSp, threadTrapframe, initSize, initTop, sizeTop, ownChannel, firstDevice}
+use Rattle.rules.specs.Listing.{bytes}
 use Rattle.rules.specs.Model.{Core, Books, Table, at, hartAt, groupAt, is, isSlot, known, sameGroup, taken, pid, slot}
 use Rattle.rules.specs.Moves.{change, publish, hand, idle, yieldOn, sleepOn, zombieOn, sweep, lowest, wake, wakeOf, slay, reparent, newGroup, openGroup, joinGroup, resize, setInit, spend, reap}
 
@@ -73,9 +74,8 @@ madeIn t c b = gives (Made (pid (t .books .pids))) (record { core = c; books = b
 unfoldable pub padded : List ℕ → List ℕ
 padded name = take nameSize (name ++ replicate nameSize 0)
 
--- `initname`
 unfoldable pub initName : List ℕ
-initName = padded (105 ∷ 110 ∷ 105 ∷ 116 ∷ 110 ∷ 97 ∷ 109 ∷ 101 ∷ [])
+initName = padded (bytes "initname")
 
 unfoldable pub initIn : ℕ → Table → Process
 initIn s t = taken (t .books .pids)
@@ -206,9 +206,9 @@ childOf s p = isSlot s (p .kin .parent) && not (p .kin .thread)
 unfoldable pub zombieChildOf : ℕ → Process → Bool
 zombieChildOf s p = is ZOMBIE p && childOf s p
 
-abbrev pub any : Option ℕ → Bool
-any none = false
-any (some i) = true
+abbrev pub isThere : Option ℕ → Bool
+isThere none = false
+isThere (some i) = true
 
 -- the lowest ZOMBIE child that is no thread is reaped; killed is looked at only after that scan
 unfoldable pub waitedFor : Table → ℕ → Wish → ℕ → Option ℕ → Outcome
@@ -216,7 +216,7 @@ waitedFor t h w s (some i) =
     refuseIf (unwritable w) StatusUnwritable t
     (gives (Reaped (at (t .core) i .meta .pid) (at (t .core) i .meta .xstate)) (reap i t))
 waitedFor t h w s none =
-    refuseIf (not (any (lowest (childOf s) (t .core .slots))) || at (t .core) s .meta .killed) NoneSuch t
+    refuseIf (not (isThere (lowest (childOf s) (t .core .slots))) || at (t .core) s .meta .killed) NoneSuch t
     (moves Blocked (sleepOn h s (ownChannel s) (t .core)) t)
 
 unfoldable pub waited : Table → ℕ → Wish → Outcome

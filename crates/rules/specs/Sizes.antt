@@ -1,4 +1,4 @@
--- The numbers of the port. A larger table changes the first of them and nothing else.
+-- The numbers of the port. A larger table changes the first of them, and Table::SLOTS in the code; it divides 2^32 (Laws/Ring.antt) and is a multiple of 4 (wakes).
 use Prim.Native.Nat.{ℕ, suc, _+_, _-_, _*_, _^_}
 
 unfoldable pub slotCount : ℕ

@@ -44,8 +44,7 @@ pub struct Kin {
     pub system: bool,
 }
 
-// Of the Rust's ProcData, what no call changes before the slot is freed: trapframe address, first stack pointer, start record
-// (entry, stack top, argument, return address) and name.
+// Of the Rust's ProcData, what a slot is born with. sp: first stack pointer; entry, top, arg and ret: the start record.
 pub struct Start {
     pub trapframe: u64,
     pub sp: u64,

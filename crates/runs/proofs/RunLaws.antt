@@ -17,11 +17,11 @@ use Rattle.promises.specs.Did.{Did}
 use Rattle.buffers.specs.Text.{put, Wrote}
 use Rattle.buffers.proofs.TextLaws.{wrote-none, wrote-more, part-from}
 use Rattle.steps.specs.declared.Call.{Call}
-use Rattle.steps.specs.Calls.{callOf}
+use Rattle.steps.specs.ByValue.{callOf}
 use Rattle.answers.specs.Words.{answerWords, coded, codes}
 use Rattle.answers.proofs.AnswerLaws.{coded-length, codes-length, codes-more}
 use Rattle.codes.specs.Codes.{callWords, callNumbered, callIn, asOption}
-use Rattle.runs.specs.Calls.{followed, callsIn, Ran}
+use Rattle.runs.specs.Ran.{followed, callsIn, Ran}
 use Rattle.codes.specs.declared.Read.{Read}
 use Rattle.codes.specs.declared.Read.the-variants.{No, Is}
 

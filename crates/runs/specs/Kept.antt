@@ -8,7 +8,7 @@ use Rattle.rules.specs.Runs.{Call, run}
 use Rattle.promises.specs.Demand3.{Demand3, sound-demand}
 use Rattle.promises.specs.FirstOut.{Turn, FirstInFirstOut, handedOut, first-in-first-out}
 use Rattle.promises.specs.Reached.{reached}
-use Rattle.runs.specs.Calls.{Ran}
+use Rattle.runs.specs.Ran.{Ran}
 
 -- no second outcome
 pub ran-once : {cs : List Call} {t : Table} {b : List ℕ} {n m : ℕ} {u v : Table} {d e : List ℕ} → Ran cs t b n u d → Ran cs t b m v e → (n ≡ m) × (u ≡ v) × (d ≡ e)

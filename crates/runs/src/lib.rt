@@ -1,7 +1,7 @@
 // Many calls in one: a lent list of words holds the calls, another gets the answers.
 ghost use Rattle.promises.specs.Order.Sound.{Sound};
 ghost use Rattle.words.specs.Reading.{tableOf};
-ghost use Rattle.runs.specs.Calls.{within, Ran};
+ghost use Rattle.runs.specs.Ran.{callsWithin, Ran};
 use codes::Read;
 use words::Table;
 
@@ -14,7 +14,7 @@ pub fn run(
     budget: usize,
 ) -> usize
     requires { ⌜ Sound (tableOf (now t)) ⌝ }
-    ensures { λ r. ⌜ Ran (within budget (now (text .entry)) (now (calls .entry)) (now (out .entry))) (tableOf (now (t .entry))) (now (out .entry)) r (tableOf (now (t .exit))) (now (out .exit)) ⌝ }
+    ensures { λ r. ⌜ Ran (callsWithin budget (now (text .entry)) (now (calls .entry)) (now (out .entry))) (tableOf (now (t .entry))) (now (out .entry)) r (tableOf (now (t .exit))) (now (out .exit)) ⌝ }
 {
     let most = steps::least(budget, out.len() / answers::WORDS);
     let mut n = 0;

@@ -2,8 +2,7 @@
 use Prim.Native.Nat.{ℕ, _≤_, _<_}
 use native.Mathlib.Omega.{arith}
 use mathlib.Core.Path.{_≡_, refl, ap, _∙_}
-use mathlib.Core.List.{List, [], _∷_}
-use lib.ListN.{length}
+use lib.ListN.{length, drop-of-length-le}
 use borrow.Author.Tests.{le-leb, lt-leb, lt-ltb, le-ltb}
 use Rattle.rules.specs.declared.ProcState.the-variants.{UNUSED, RUNNABLE, RUNNING}
 use Rattle.rules.specs.declared.Slot.{Slot}
@@ -32,10 +31,6 @@ use Rattle.taking.specs.Parts.{callerOf}
 use Rattle.taking.proofs.Facts.{caller-runs, turned-down, moved, if-so, if-not, found-none, found-at, hart-no, hart-is}
 
 -- ---- dispatch
-nothing : (l : List ℕ) → length l ≡ 0 → l ≡ []
-nothing [] e = refl
-nothing (x ∷ l) e = absurd (omega arith)
-
 module _ (t : Table) (h : ℕ) where
   pub dispatch-none : hartCount ≤ h → Makes (step t (dispatch h)) (Refused NoSuchHart) t
   unfolding step dispatched
@@ -47,7 +42,7 @@ module _ (t : Table) (h : ℕ) where
 
   pub dispatch-empty : h < hartCount → hartAt (t .core) h ≡ Nobody → length (t .core .queue) ≡ 0 → Makes (step t (dispatch h)) (Refused QueueEmpty) t
   unfolding step dispatched handNext
-  dispatch-empty b e z = if-not _ t (lt-leb hartCount h b) (if-not _ t (ap known e) (rw (nothing (t .core .queue) z) (turned-down refl)))
+  dispatch-empty b e z = if-not _ t (lt-leb hartCount h b) (if-not _ t (ap known e) (rw (drop-of-length-le (t .core .queue) {i = 0} (omega arith)) (turned-down refl)))
 
   pub dispatch-is : {s : ℕ} {p u : Table} → h < hartCount → hartAt (t .core) h ≡ Nobody → Popped t s p → u ≡ onCore (λ c. hand h s (c .queue) c) p
       → Makes (step t (dispatch h)) (Handed (slot s)) u

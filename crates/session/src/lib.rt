@@ -1,9 +1,10 @@
 // Standard input to a session, in whatever pieces it comes, and what is said to standard output.
+ghost use mathlib.Core.Path.{_≡_};
 ghost use Prim.Native.Nat.{_+_, _≤_};
 ghost use lib.ListN.{length};
 ghost use Rattle.desk.specs.Desk.{deskTop};
-ghost use Rattle.talk.specs.Places.{Ready};
-ghost use Rattle.session.specs.Turns.{placeOf};
+ghost use Rattle.talk.specs.Places.{seatOf, Ready};
+ghost use Rattle.session.specs.Turns.{placeOf, afterRoom, Heard, HeardSome};
 use talk::Place;
 use words::Table;
 
@@ -15,7 +16,7 @@ enum Turn {
 // Writes what waits, if the next answer might not fit behind it.
 fn make_room(out: &[u8], at: usize) -> usize
     requires { ⌜ (deskTop ≤ length (now out)) × (at ≤ length (now out)) ⌝ }
-    ensures { λ r. ⌜ r + deskTop ≤ length (now (out .entry)) ⌝ }
+    ensures { λ r. ⌜ (r ≡ afterRoom at (length (now (out .entry)))) × (r + deskTop ≤ length (now (out .entry))) ⌝ }
 {
     if at <= out.len() - desk::TOP {
         return at;
@@ -34,7 +35,7 @@ fn take_all(
     p: Place,
 ) -> Place
     requires { ⌜ Ready (now t) (now line) (now name) (now out) p ⌝ }
-    ensures { λ r. ⌜ Ready (now (t .exit)) (now (line .exit)) (now (name .exit)) (now (out .exit)) r ⌝ }
+    ensures { λ r. ⌜ Heard (seatOf (now (t .entry)) (now (line .entry)) (now (out .entry)) p) (now (chunk .entry)) (now (t .exit)) (now (line .exit)) (now (name .exit)) (now (out .exit)) r ⌝ }
 {
     let mut len = p.len;
     let mut number = p.number;
@@ -67,7 +68,7 @@ fn listen(
     p: Place,
 ) -> Turn
     requires { ⌜ Ready (now t) (now line) (now name) (now out) p ⌝ }
-    ensures { λ r. ⌜ Ready (now (t .exit)) (now (line .exit)) (now (name .exit)) (now (out .exit)) (placeOf r) ⌝ }
+    ensures { λ r. ⌜ HeardSome (seatOf (now (t .entry)) (now (line .entry)) (now (out .entry)) p) (now (t .exit)) (now (line .exit)) (now (name .exit)) (now (out .exit)) (placeOf r) ⌝ }
 {
     let mut chunk = io::buffer();
     let got = libc::read(0, &mut chunk);
@@ -87,7 +88,7 @@ fn hear(
     p: Place,
 ) -> Place
     requires { ⌜ Ready (now t) (now line) (now name) (now out) p ⌝ }
-    ensures { λ r. ⌜ Ready (now (t .exit)) (now (line .exit)) (now (name .exit)) (now (out .exit)) r ⌝ }
+    ensures { λ r. ⌜ HeardSome (seatOf (now (t .entry)) (now (line .entry)) (now (out .entry)) p) (now (t .exit)) (now (line .exit)) (now (name .exit)) (now (out .exit)) r ⌝ }
 {
     let mut len = p.len;
     let mut number = p.number;

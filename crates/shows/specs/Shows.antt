@@ -13,7 +13,7 @@ use Rattle.rules.specs.declared.Process.{Process}
 use Rattle.rules.specs.Sizes.{slotCount, hartCount, nameSize}
 use Rattle.rules.specs.Model.{Books, Table, is, at, groupAt}
 use Rattle.rules.specs.Listing.{bytes, digits, stateText}
-use Rattle.pieces.specs.Pieces.{placeText, hexText, field, flag, place}
+use Rattle.pieces.specs.Pieces.{numberTop, placeText, hexText, field, flag, place}
 
 -- ---- commas
 -- each after a comma
@@ -76,12 +76,43 @@ slotsText t (suc n) = slotsText t n ++ slotText t n
 unfoldable pub showText : Table → List ℕ
 showText t = headText t ++ slotsText t slotCount
 
--- ---- at the longest, with 20 digits to a number
+-- ---- at the longest: labels, numbers, and the end of a line
+-- a number and a comma
+abbrev pub itemTop : ℕ
+itemTop = 1 + numberTop
+
+abbrev pub queueTop : ℕ
+queueTop = 7 + itemTop * slotCount
+
+abbrev pub hartsTop : ℕ
+hartsTop = 7 + itemTop * hartCount
+
 abbrev pub headTop : ℕ
-headTop = 66 + 21 * slotCount + 21 * hartCount
+headTop = 12 + 2 * numberTop + queueTop + hartsTop
+
+abbrev pub stateTop : ℕ
+stateTop = 10
+
+abbrev pub metaTop : ℕ
+metaTop = 40 + 3 * numberTop + stateTop
+
+abbrev pub groupTop : ℕ
+groupTop = 13 + 2 * numberTop
+
+abbrev pub kinTop : ℕ
+kinTop = 26 + numberTop + groupTop
+
+abbrev pub recordTop : ℕ
+recordTop = 10 + 4 * numberTop
+
+abbrev pub nameTop : ℕ
+nameTop = 6 + 2 * nameSize
+
+abbrev pub startTop : ℕ
+startTop = 15 + 2 * numberTop + recordTop + nameTop
 
 abbrev pub slotTop : ℕ
-slotTop = 386 + 2 * nameSize
+slotTop = 6 + numberTop + metaTop + kinTop + startTop
 
 abbrev pub showTop : ℕ
 showTop = headTop + slotTop * slotCount

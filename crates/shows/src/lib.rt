@@ -14,11 +14,20 @@ use words::slot;
 mod head; // the queue and the harts
 mod part; // a slot's three parts
 
+// At the longest: a number, the first line, a name, a slot's line.
+const NUMBER_TOP: usize = 20;
+
+const HEAD_TOP: usize = 26 + 2 * NUMBER_TOP + (1 + NUMBER_TOP) * (Table::SLOTS + Table::HARTS);
+
+const NAME_TOP: usize = 6 + 2 * 16;
+
+const SLOT_TOP: usize = 120 + 13 * NUMBER_TOP + NAME_TOP;
+
 // Room for the text of any table.
-pub const TOP: usize = 66 + 21 * Table::SLOTS + 21 * Table::HARTS + 418 * Table::SLOTS;
+pub const TOP: usize = HEAD_TOP + SLOT_TOP * Table::SLOTS;
 
 fn write_head(t: &[u64; Table::WORDS], out: &mut [u8], at: usize) -> usize
-    requires { ⌜ Sound (tableOf (now t)) × (at + headTop ≤ length (now out)) ⌝ }
+    requires { ⌜ (length (tableOf (now t) .core .queue) ≤ slotCount) × (at + headTop ≤ length (now out)) ⌝ }
     ensures { λ r. ⌜ Wrote (now (out .entry)) at (headText (tableOf (now (t .entry)))) (now (out .exit)) r × (r ≤ at + headTop) ⌝ }
 {
     let a = pieces::write_field(out, at, b"pids ", book::pids(t));

@@ -8,7 +8,7 @@ ghost use Rattle.rules.specs.Model.{at};
 ghost use Rattle.rules.specs.Listing.{bytes, stateText};
 ghost use Rattle.words.specs.Reading.{tableOf, startOf, InGroups};
 ghost use Rattle.buffers.specs.Text.{Wrote};
-ghost use Rattle.shows.specs.Shows.{metaText, groupText, kinText, recordText, nameText, startText};
+ghost use Rattle.shows.specs.Shows.{metaText, groupText, kinText, recordText, nameText, startText, stateTop, metaTop, groupTop, kinTop, recordTop, nameTop, startTop};
 use labels::name;
 use labels::state;
 use rules::Member;
@@ -20,16 +20,16 @@ use words::slot;
 use words::slot::StartWords;
 
 fn write_state(out: &mut [u8], at: usize, s: ProcState) -> usize
-    requires { ⌜ at + 10 ≤ length (now out) ⌝ }
-    ensures { λ r. ⌜ Wrote (now (out .entry)) at (bytes " " ++ stateText s) (now (out .exit)) r × (r ≤ at + 10) ⌝ }
+    requires { ⌜ at + stateTop ≤ length (now out) ⌝ }
+    ensures { λ r. ⌜ Wrote (now (out .entry)) at (bytes " " ++ stateText s) (now (out .exit)) r × (r ≤ at + stateTop) ⌝ }
 {
     let on = buffers::write(out, at, b" ");
     state::write(out, on, s)
 }
 
 pub fn write_meta(out: &mut [u8], at: usize, m: ProcMeta) -> usize
-    requires { ⌜ at + 110 ≤ length (now out) ⌝ }
-    ensures { λ r. ⌜ Wrote (now (out .entry)) at (metaText m) (now (out .exit)) r × (r ≤ at + 110) ⌝ }
+    requires { ⌜ at + metaTop ≤ length (now out) ⌝ }
+    ensures { λ r. ⌜ Wrote (now (out .entry)) at (metaText m) (now (out .exit)) r × (r ≤ at + metaTop) ⌝ }
 {
     let state = m.state;
     let pid = m.pid;
@@ -42,8 +42,8 @@ pub fn write_meta(out: &mut [u8], at: usize, m: ProcMeta) -> usize
 }
 
 fn write_group(t: &[u64; Table::WORDS], out: &mut [u8], at: usize, g: Member) -> usize
-    requires { ⌜ InGroups g × (at + 53 ≤ length (now out)) ⌝ }
-    ensures { λ r. ⌜ Wrote (now (out .entry)) at (groupText (tableOf (now (t .entry)) .books) g) (now (out .exit)) r × (r ≤ at + 53) ⌝ }
+    requires { ⌜ InGroups g × (at + groupTop ≤ length (now out)) ⌝ }
+    ensures { λ r. ⌜ Wrote (now (out .entry)) at (groupText (tableOf (now (t .entry)) .books) g) (now (out .exit)) r × (r ≤ at + groupTop) ⌝ }
 {
     match g {
         Member::Alone => buffers::write(out, at, b" group - size 0"),
@@ -56,8 +56,8 @@ fn write_group(t: &[u64; Table::WORDS], out: &mut [u8], at: usize, g: Member) ->
 }
 
 pub fn write_kin(t: &[u64; Table::WORDS], out: &mut [u8], to: usize, s: usize) -> usize
-    requires { ⌜ (s < slotCount) × (to + 99 ≤ length (now out)) ⌝ }
-    ensures { λ r. ⌜ Wrote (now (out .entry)) to (kinText (tableOf (now (t .entry)) .books) (at (tableOf (now (t .entry)) .core) s .kin)) (now (out .exit)) r × (r ≤ to + 99) ⌝ }
+    requires { ⌜ (s < slotCount) × (to + kinTop ≤ length (now out)) ⌝ }
+    ensures { λ r. ⌜ Wrote (now (out .entry)) to (kinText (tableOf (now (t .entry)) .books) (at (tableOf (now (t .entry)) .core) s .kin)) (now (out .exit)) r × (r ≤ to + kinTop) ⌝ }
 {
     let k = slot::kin_at(t, s);
     let parent = k.parent;
@@ -78,8 +78,8 @@ fn trapframe_at(below: u64) -> u64
 }
 
 fn write_record(out: &mut [u8], at: usize, w: StartWords) -> usize
-    requires { ⌜ at + 90 ≤ length (now out) ⌝ }
-    ensures { λ r. ⌜ Wrote (now (out .entry)) at (recordText (startOf w)) (now (out .exit)) r × (r ≤ at + 90) ⌝ }
+    requires { ⌜ at + recordTop ≤ length (now out) ⌝ }
+    ensures { λ r. ⌜ Wrote (now (out .entry)) at (recordText (startOf w)) (now (out .exit)) r × (r ≤ at + recordTop) ⌝ }
 {
     let a = pieces::write_field(out, at, b" start ", w.entry);
     let b = pieces::write_field(out, a, b"/", w.top);
@@ -88,8 +88,8 @@ fn write_record(out: &mut [u8], at: usize, w: StartWords) -> usize
 }
 
 fn write_name(out: &mut [u8], at: usize, w: StartWords) -> usize
-    requires { ⌜ at + 38 ≤ length (now out) ⌝ }
-    ensures { λ r. ⌜ Wrote (now (out .entry)) at (nameText (startOf w)) (now (out .exit)) r × (r ≤ at + 38) ⌝ }
+    requires { ⌜ at + nameTop ≤ length (now out) ⌝ }
+    ensures { λ r. ⌜ Wrote (now (out .entry)) at (nameText (startOf w)) (now (out .exit)) r × (r ≤ at + nameTop) ⌝ }
 {
     let name = name::unpack(w.name0, w.name1);
     let on = buffers::write(out, at, b" name ");
@@ -97,8 +97,8 @@ fn write_name(out: &mut [u8], at: usize, w: StartWords) -> usize
 }
 
 pub fn write_start(t: &[u64; Table::WORDS], out: &mut [u8], to: usize, s: usize) -> usize
-    requires { ⌜ (s < slotCount) × (to + 183 ≤ length (now out)) ⌝ }
-    ensures { λ r. ⌜ Wrote (now (out .entry)) to (startText (at (tableOf (now (t .entry)) .core) s .start)) (now (out .exit)) r × (r ≤ to + 183) ⌝ }
+    requires { ⌜ (s < slotCount) × (to + startTop ≤ length (now out)) ⌝ }
+    ensures { λ r. ⌜ Wrote (now (out .entry)) to (startText (at (tableOf (now (t .entry)) .core) s .start)) (now (out .exit)) r × (r ≤ to + startTop) ⌝ }
 {
     let w = slot::start_at(t, s);
     let a = pieces::write_field(out, to, b" trapframe ", trapframe_at(w.below));

@@ -15,7 +15,7 @@ use Rattle.rules.specs.Runs.{spawn, grow}
 use Rattle.promises.specs.Did.{Did}
 use Rattle.steps.specs.declared.Call.{Call}
 use Rattle.steps.specs.declared.Call.the-variants.{Grow}
-use Rattle.steps.specs.Calls.{least, pieceOf, callOf}
+use Rattle.steps.specs.ByValue.{least, pieceOf, callOf}
 
 pub by-call : (text : List ℕ) (d : Call) {c : Call} {t : Table} {a : Answer} {u : Table} → c ≡ d → Did (callOf text d) t a u → Did (callOf text c) t a u
 by-call text d {t = t} {a = a} {u = u} e m = subst (λ (x : Call). Did (callOf text x) t a u) (sym e) m

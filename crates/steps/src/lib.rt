@@ -5,7 +5,7 @@ ghost use Rattle.rules.specs.Runs.{spawn};
 ghost use Rattle.promises.specs.Order.Sound.{Sound};
 ghost use Rattle.promises.specs.Did.{Did};
 ghost use Rattle.words.specs.Reading.{tableOf};
-ghost use Rattle.steps.specs.Calls.{least, pieceOf, callOf};
+ghost use Rattle.steps.specs.ByValue.{least, pieceOf, callOf};
 use rules::Answer;
 use rules::Mapped;
 use rules::Pid;

@@ -1,5 +1,5 @@
 -- What the parts of a call tell its proof: who the caller is, what was taken; and the heads of the rules' calls, by what the parts answer.
-use Prim.Native.Nat.{ℕ, _+_, _<_}
+use Prim.Native.Nat.{ℕ, _<_}
 use native.Mathlib.Omega.{arith}
 use mathlib.Core.Path.{_≡_, refl, sym, ap, subst}
 use mathlib.Core.Bool.{Bool, true, false, cond}
@@ -15,11 +15,11 @@ use Rattle.rules.specs.declared.Refusal.{Refusal}
 use Rattle.rules.specs.declared.Refusal.the-variants.{NoSuchHart, PidsSpent, TableFull, NoGroup}
 use Rattle.rules.specs.declared.Answer.{Answer}
 use Rattle.rules.specs.declared.Answer.the-variants.{Refused}
-use Rattle.rules.specs.Sizes.{slotCount, hartCount, ownChannel, pidTop}
+use Rattle.rules.specs.Sizes.{slotCount, hartCount, pidTop}
 use Rattle.rules.specs.Model.{Core, Table, at, hartAt, groupAt, free, is, slot}
 use Rattle.rules.specs.Moves.{lowest, spend}
 use Rattle.rules.specs.Calls.{Outcome, gives, moves, refuse, refuseIf, runner, onHart, member, inGroup, found, spent, taking}
-use Rattle.promises.specs.Laws.Lists.{tally-lt}
+use Rattle.promises.specs.Laws.Counts.{tally-lt}
 use Rattle.promises.specs.Laws.Scans.{lowest-passes}
 use Rattle.promises.specs.Order.Sound.{names, Sound}
 use Rattle.promises.specs.Order.States.{other}
@@ -28,10 +28,6 @@ use Rattle.promises.specs.Order.Chains.{onCore}
 use Rattle.promises.specs.Did.{Makes}
 use Rattle.taking.specs.declared.Got.the-variants.{No, Is}
 use Rattle.taking.specs.Parts.{runsOn, callerOf, orFull, takenOf, afterTake, orRefused}
-
--- the code's channel of a slot is the slot's own
-pub own-channel : (i : ℕ) → i + 1 ≡ ownChannel i
-own-channel i = omega arith
 
 -- who the caller is
 pub caller-runs : (c : Core) (h s : ℕ) → Is s ≡ callerOf c h → hartAt c h ≡ Of (slot s)

@@ -7,7 +7,7 @@ use mathlib.Core.Option.{none, some}
 use lib.ListN.{getD, set}
 use borrow.Author.Tests.{le-leb, lt-leb}
 use Rattle.rules.specs.declared.Slot.{Slot}
-use Rattle.rules.specs.declared.ProcState.the-variants.{UNUSED, ALLOCATED}
+use Rattle.rules.specs.declared.ProcState.the-variants.{UNUSED}
 use Rattle.rules.specs.declared.Parent.the-variants.{Nobody, Of}
 use Rattle.rules.specs.declared.Member.{Member}
 use Rattle.rules.specs.declared.Member.the-variants.{Alone, In}
@@ -28,7 +28,7 @@ use Rattle.scans.specs.declared.Found.{Found}
 use Rattle.scans.specs.declared.Test.the-variants.{Unused}
 use Rattle.scans.specs.Tests.{passes, asOption}
 use Rattle.taking.specs.declared.Got.the-variants.{No, Is}
-use Rattle.taking.specs.Parts.{callerOf, takenOf, afterTake}
+use Rattle.taking.specs.Parts.{callerOf, takenOf, afterTake, slotOf}
 
 -- ---- the caller
 module _ (c : Core) (h : ℕ) where
@@ -76,13 +76,9 @@ unfolding change onCore
 fuse f g s t = ap (λ (l : List Process). onCore (λ c. record { slots = l; queue = c .queue; harts = c .harts }) t) (set-twice f g (t .core .slots) s)
 
 pub parts-law : (t : Table) (s : ℕ) (m : ProcMeta) (k : Kin) (b : Start)
-    → onCore (change (withStart b) s) (onCore (change (withKin k) s) (onCore (change (withMeta m) s) t)) ≡ onCore (change (λ _. record { meta = m; kin = k; start = b }) s) t
+    → onCore (change (withStart b) s) (onCore (change (withKin k) s) (onCore (change (withMeta m) s) t)) ≡ onCore (fill s (slotOf m k b)) t
+unfolding fill
 parts-law t s m k b = ap (onCore (change (withStart b) s)) (fuse (withMeta m) (withKin k) s t) ∙ fuse (λ p. withKin k (withMeta m p)) (withStart b) s t
-
-pub fill-law : (t : Table) (s n : ℕ) (k : Kin) (b : Start)
-    → onCore (change (λ _. record { meta = record { state = ALLOCATED; channel = 0; killed = false; xstate = 0; pid = pid n; queued = false }; kin = k; start = b }) s) t ≡ onCore (fill s (taken n k b)) t
-unfolding fill taken
-fill-law t s n k b = refl
 
 pub free-is : _≡_ {A = Process} (record {
   meta = record { state = UNUSED; channel = 0; killed = false; xstate = 0; pid = pid 0; queued = false };

@@ -6,6 +6,10 @@ use lib.Dec.{leb}
 use Rattle.rules.specs.declared.ProcState.the-variants.{UNUSED}
 use Rattle.rules.specs.declared.Parent.{Parent}
 use Rattle.rules.specs.declared.Parent.the-variants.{Nobody, Of}
+use Rattle.rules.specs.declared.ProcMeta.{ProcMeta}
+use Rattle.rules.specs.declared.Kin.{Kin}
+use Rattle.rules.specs.declared.Start.{Start}
+use Rattle.rules.specs.declared.Process.{Process}
 use Rattle.rules.specs.declared.Refusal.the-variants.{NoSuchHart, HartIdle, TableFull, PidsSpent}
 use Rattle.rules.specs.Sizes.{slotCount, hartCount, pidTop}
 use Rattle.rules.specs.Model.{Core, Table, hartAt, is}
@@ -45,3 +49,6 @@ InSlots (Is s) = s < slotCount
 unfoldable pub orRefused : Table → Got → (ℕ → Outcome) → Outcome
 orRefused t (No r) k = refuse r t
 orRefused t (Is s) k = k s
+
+abbrev pub slotOf : ProcMeta → Kin → Start → Process
+slotOf m k b = record { meta = m; kin = k; start = b }

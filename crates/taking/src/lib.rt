@@ -9,7 +9,7 @@ ghost use Rattle.rules.specs.Calls.{fill};
 ghost use Rattle.promises.specs.Order.Chains.{onCore};
 ghost use Rattle.words.specs.Reading.{tableOf, startOf, InTable, InGroups};
 ghost use Rattle.words.specs.Effects.{onBooks};
-ghost use Rattle.taking.specs.Parts.{callerOf, InHart, takenOf, afterTake, InSlots};
+ghost use Rattle.taking.specs.Parts.{callerOf, InHart, takenOf, afterTake, InSlots, slotOf};
 use rules::Group;
 use rules::Kin;
 use rules::Member;
@@ -60,11 +60,21 @@ pub fn alloc_proc(t: &mut [u64; Table::WORDS]) -> Got
     Got::Is(s)
 }
 
+// A slot's three parts, all set.
+fn set_slot(t: &mut [u64; Table::WORDS], s: usize, m: ProcMeta, k: Kin, b: StartWords)
+    requires { ⌜ (s < slotCount) × InGroups (k .group) × InTable (k .parent) ⌝ }
+    ensures { λ _. ⌜ tableOf (now (t .exit)) ≡ onCore (fill s (slotOf m k (startOf b))) (tableOf (now (t .entry))) ⌝ }
+{
+    slot::set_meta(t, s, m);
+    slot::set_kin(t, s, k);
+    slot::set_start(t, s, b);
+}
+
 pub fn fill(t: &mut [u64; Table::WORDS], s: usize, n: u64, k: Kin, b: StartWords)
     requires { ⌜ (s < slotCount) × InGroups (k .group) × InTable (k .parent) ⌝ }
     ensures { λ _. ⌜ tableOf (now (t .exit)) ≡ onCore (fill s (taken n k (startOf b))) (tableOf (now (t .entry))) ⌝ }
 {
-    slot::set_meta(
+    set_slot(
         t,
         s,
         ProcMeta {
@@ -75,9 +85,9 @@ pub fn fill(t: &mut [u64; Table::WORDS], s: usize, n: u64, k: Kin, b: StartWords
             pid: Pid(n),
             queued: false,
         },
+        k,
+        b,
     );
-    slot::set_kin(t, s, k);
-    slot::set_start(t, s, b);
 }
 
 pub fn join_group(t: &mut [u64; Table::WORDS], g: usize)
@@ -129,7 +139,7 @@ fn clear(t: &mut [u64; Table::WORDS], i: usize)
     requires { ⌜ i < slotCount ⌝ }
     ensures { λ _. ⌜ tableOf (now (t .exit)) ≡ onCore (change toFree i) (tableOf (now (t .entry))) ⌝ }
 {
-    slot::set_meta(
+    set_slot(
         t,
         i,
         ProcMeta {
@@ -140,20 +150,12 @@ fn clear(t: &mut [u64; Table::WORDS], i: usize)
             pid: Pid(0),
             queued: false,
         },
-    );
-    slot::set_kin(
-        t,
-        i,
         Kin {
             group: Member::Alone,
             parent: Parent::Nobody,
             thread: false,
             system: false,
         },
-    );
-    slot::set_start(
-        t,
-        i,
         StartWords {
             below: 0,
             sp: 0,

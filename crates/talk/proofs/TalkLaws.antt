@@ -18,8 +18,8 @@ use Rattle.lines.specs.Meaning.{means}
 use Rattle.desk.specs.Desk.{misreadText, tableAfter, textFor, misreadTop, deskTop, Answered}
 use Rattle.talk.specs.declared.Place.{Place}
 use Rattle.talk.specs.Talk.{Seat, longestLine, newline, lineMeans, ended, kept, heard, hears, closed}
-use Rattle.talk.specs.Pieces.{in-pieces}
-use Rattle.talk.specs.Places.{lineRoom, seatOf, Ready, Holds, Took}
+use Rattle.talk.specs.WholeLines.{in-pieces}
+use Rattle.talk.specs.Places.{lineRoom, seatOf, Ready, Seated, HeardPart}
 
 -- the front of the buffer, with the text behind it
 wrote-front : {b p a : List ℕ} {k m : ℕ} → Wrote b k p a m → take m a ≡ take k b ++ p
@@ -62,7 +62,7 @@ module _ (line : List ℕ) (len : ℕ) (e : length line ≡ lineRoom) where
 module _ (t line out : List ℕ) (p : Place) where
   pub line-ended : {u d : List ℕ} {k n end : ℕ} → p .at + deskTop ≤ length out → k ≡ 0 → n ≡ (p .number + 1) % 2 ^ 64
       → Answered (tableOf t) n (lineMeans (take (p .len) line)) (tableOf u) out (p .at) d end
-      → Holds (ended (seatOf t line out p)) u line d (record { len = k; number = n; at = end })
+      → Seated (ended (seatOf t line out p)) u line d (record { len = k; number = n; at = end })
   unfolding ended
   line-ended h z e a = record {
     seat = seat-by (a .table) (ap (λ (k : ℕ). take k line) z) e (wrote-front (a .text) ∙ ap (λ (k : ℕ). take (p .at) out ++ textFor (tableOf t) k (lineMeans (take (p .len) line))) e);
@@ -72,27 +72,27 @@ module _ (t line out : List ℕ) (p : Place) where
   }
 
   module _ (b : ℕ) where
-    pub heard-end : b ≡ newline → {u l d : List ℕ} {q : Place} → Holds (ended (seatOf t line out p)) u l d q → Holds (heard (seatOf t line out p) b) u l d q
+    pub heard-end : b ≡ newline → {u l d : List ℕ} {q : Place} → Seated (ended (seatOf t line out p)) u l d q → Seated (heard (seatOf t line out p) b) u l d q
     unfolding heard
     heard-end e h = rw (eq-eqb b newline e) h
 
     pub heard-more : (b ≡ newline → ⊥) → {l : List ℕ} {k : ℕ} → Sound (tableOf t) → p .at + deskTop ≤ length out → take k l ≡ kept (take (p .len) line) b → k ≤ lineRoom
-        → Holds (heard (seatOf t line out p) b) t l out (record { len = k; number = p .number; at = p .at })
+        → Seated (heard (seatOf t line out p) b) t l out (record { len = k; number = p .number; at = p .at })
     unfolding heard
     heard-more e w h f g = rw (ne-eqb b newline e) record { seat = seat-by refl f refl refl; sound = w; len = g; at = omega arith }
 
-  pub closed-empty : p .len ≡ 0 → Sound (tableOf t) → p .at + deskTop ≤ length out → Holds (closed (seatOf t line out p)) t line out p
+  pub closed-empty : p .len ≡ 0 → Sound (tableOf t) → p .at + deskTop ≤ length out → Seated (closed (seatOf t line out p)) t line out p
   unfolding closed
   closed-empty e w h = record { seat = rw (eq-eqb (length (take (p .len) line)) 0 (ap (λ (n : ℕ). length (take n line)) e)); sound = w; len = omega arith; at = omega arith }
 
-  pub closed-line : length line ≡ lineRoom → p .len ≤ lineRoom → (p .len ≡ 0 → ⊥) → {u d : List ℕ} {q : Place} → Holds (ended (seatOf t line out p)) u line d q → Holds (closed (seatOf t line out p)) u line d q
+  pub closed-line : length line ≡ lineRoom → p .len ≤ lineRoom → (p .len ≡ 0 → ⊥) → {u d : List ℕ} {q : Place} → Seated (ended (seatOf t line out p)) u line d q → Seated (closed (seatOf t line out p)) u line d q
   unfolding closed
   closed-line f g e h = rw (ne-eqb (length (take (p .len) line)) 0 (λ z. e (omega (arith, length-take-le (p .len) line (omega arith))))) h
 
 -- ---- the first bytes of a piece
 module _ (s : Seat) (piece line₀ name₀ out₀ : List ℕ) where
   pub record Midway (t line name out : List ℕ) (len number at used : ℕ) : Type 0 where
-    pub holds : Holds (hears s (take used piece)) t line out (record { len = len; number = number; at = at })
+    pub holds : Seated (hears s (take used piece)) t line out (record { len = len; number = number; at = at })
     pub within : used ≤ length piece
     pub line-same : length line ≡ length line₀
     pub name-same : length name ≡ length name₀
@@ -118,16 +118,16 @@ module _ (s : Seat) (piece line₀ name₀ out₀ : List ℕ) where
     ready f g h = record { sound = m .holds .sound; forLine = m .line-same ∙ f; forName = omega (arith, m .name-same); len = m .holds .len; forAnswer = h }
 
     pub next : {u line' name' d : List ℕ} {q : Place} → used < length piece
-        → Holds (heard (seatOf t line out (record { len = len; number = number; at = at })) (getD piece used 0)) u line' d q
+        → Seated (heard (seatOf t line out (record { len = len; number = number; at = at })) (getD piece used 0)) u line' d q
         → length line' ≡ length line → length name' ≡ length name → length d ≡ length out
         → Midway u line' name' d (q .len) (q .number) (q .at) (used + 1)
     next {u} {line'} {d = d} {q} h v a b c = record {
-      holds = subst (λ (x : Seat). Holds x u line' d q) (ap (λ (x : Seat). heard x (getD piece used 0)) (m .holds .seat) ∙ one-more used h) v;
+      holds = subst (λ (x : Seat). Seated x u line' d q) (ap (λ (x : Seat). heard x (getD piece used 0)) (m .holds .seat) ∙ one-more used h) v;
       within = omega arith;
       line-same = a ∙ m .line-same;
       name-same = b ∙ m .name-same;
       out-same = c ∙ m .out-same;
     }
 
-    pub took : (at + deskTop ≤ length out → length piece ≤ used) → Took s piece t line out (record { place = record { len = len; number = number; at = at }; used = used })
+    pub took : (at + deskTop ≤ length out → length piece ≤ used) → HeardPart s piece t line out (record { place = record { len = len; number = number; at = at }; used = used })
     took f = record { holds = m .holds; used = m .within; all = λ h. omega (arith, f h, m .within) }

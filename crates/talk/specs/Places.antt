@@ -31,14 +31,14 @@ pub record Ready (t line name out : List ℕ) (p : Place) : Type 0 where
   pub forAnswer : p .at + deskTop ≤ length out
 
 -- the buffers hold this seat, and the table is in order
-pub record Holds (s : Seat) (t line out : List ℕ) (p : Place) : Type 0 where
+pub record Seated (s : Seat) (t line out : List ℕ) (p : Place) : Type 0 where
   pub seat : seatOf t line out p ≡ s
   pub sound : Sound (tableOf t)
   pub len : p .len ≤ lineRoom
   pub at : p .at ≤ length out
 
 -- so much of the input was heard, and all of it unless another answer might not fit
-pub record Took (s : Seat) (input t line out : List ℕ) (r : Taken) : Type 0 where
-  pub holds : Holds (hears s (take (r .used) input)) t line out (r .place)
+pub record HeardPart (s : Seat) (input t line out : List ℕ) (r : Taken) : Type 0 where
+  pub holds : Seated (hears s (take (r .used) input)) t line out (r .place)
   pub used : r .used ≤ length input
   pub all : r .place .at + deskTop ≤ length out → r .used ≡ length input

@@ -8,10 +8,10 @@ use lib.Seq.{length-take-le}
 use Rattle.talk.specs.declared.Place.{Place}
 use Rattle.talk.specs.declared.Taken.{Taken}
 use Rattle.talk.specs.Talk.{Seat, hears}
-use Rattle.talk.specs.Places.{seatOf, Ready, Took}
+use Rattle.talk.specs.Places.{seatOf, Ready, HeardPart}
 
 module _ {t line name out : List ℕ} {p : Place} (a : Ready t line name out p) (piece : List ℕ) {u l d : List ℕ} {r : Taken}
-    (k : Took (seatOf t line out p) piece u l d r) (same : length d ≡ length out) (some : 0 < length piece) where
+    (k : HeardPart (seatOf t line out p) piece u l d r) (same : length d ≡ length out) (some : 0 < length piece) where
   stays : r .used ≡ 0 → r .place .at ≡ p .at
   unfolding hears
   stays e =

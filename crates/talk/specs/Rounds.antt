@@ -5,8 +5,8 @@ use mathlib.Core.Bool.{Bool, true, false, cond}
 use mathlib.Core.List.{List, [], _∷_, _++_, append-assoc, append-nil}
 use lib.ListN.{length}
 use lib.Dec.{eqb}
-use Rattle.talk.specs.Talk.{Seat, newline, ended, grown, heard, hears, closed, opened, answersTo}
-use Rattle.talk.specs.Pieces.{in-pieces}
+use Rattle.talk.specs.Talk.{Seat, newline, ended, lengthened, heard, hears, closed, opened, answersTo}
+use Rattle.talk.specs.WholeLines.{in-pieces}
 
 -- a piece of the input is heard, and then what was said waits, or is written
 pub data Round : Type 0 where
@@ -40,7 +40,7 @@ module _ (text : List ℕ) where
   unfolding heard
   heard-after s b = go (eqb b newline)
     where
-      go : (y : Bool) → cond y (ended (after s)) (grown (after s) b) ≡ after (cond y (ended s) (grown s b))
+      go : (y : Bool) → cond y (ended (after s)) (lengthened (after s) b) ≡ after (cond y (ended s) (lengthened s b))
       go true = ended-after s
       go false = refl
 
@@ -60,6 +60,10 @@ module _ (text : List ℕ) where
 module _ (s : Seat) (l : List ℕ) where
   again : after (s .said) (written s) ≡ s
   again = rw append-nil
+
+  -- nor does what was written
+  pub hears-written : written (hears s l) ≡ written (hears (written s) l)
+  hears-written = ap (λ (x : Seat). written (hears x l)) (sym again) ∙ ap written (hears-after (s .said) (written s) l)
 
   said-since : closed (hears s l) .said ≡ s .said ++ closed (hears (written s) l) .said
   said-since = ap (λ (x : Seat). x .said) (ap (λ (x : Seat). closed (hears x l)) (sym again) ∙ ap closed (hears-after (s .said) (written s) l) ∙ closed-after (s .said) (hears (written s) l))

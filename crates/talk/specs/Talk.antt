@@ -37,11 +37,11 @@ ended s =
 unfoldable pub kept : List ℕ → ℕ → List ℕ
 kept l b = cond (ltb longestLine (length l)) l (l ++ (b ∷ []))
 
-abbrev pub grown : Seat → ℕ → Seat
-grown s b = record { table = s .table; line = kept (s .line) b; number = s .number; said = s .said }
+abbrev pub lengthened : Seat → ℕ → Seat
+lengthened s b = record { table = s .table; line = kept (s .line) b; number = s .number; said = s .said }
 
 unfoldable pub heard : Seat → ℕ → Seat
-heard s b = cond (eqb b newline) (ended s) (grown s b)
+heard s b = cond (eqb b newline) (ended s) (lengthened s b)
 
 unfoldable pub hears : Seat → List ℕ → Seat
 hears s [] = s

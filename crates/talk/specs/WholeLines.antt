@@ -9,13 +9,17 @@ use lib.Seq.{take-all, take-at, append-snoc, length-take-le}
 use lib.Dec.{ltb}
 use borrow.Author.Tests.{ltb-true, ltb-false, lt-ltb, ne-eqb}
 use Rattle.talk.specs.Talk.{Seat, longestLine, newline, lineMeans, ended, kept, heard, hears}
-use Rattle.talk.specs.Pieces.{in-pieces}
 use Rattle.talk.specs.Places.{lineRoom}
+
+pub in-pieces : (s : Seat) (a b : List ℕ) → hears s (a ++ b) ≡ hears (hears s a) b
+unfolding hears
+in-pieces s [] b = refl
+in-pieces s (x ∷ a) b = in-pieces (heard s x) a b
 
 -- no newline in it
 pub data Plain : List ℕ → Type 0 where
-  none : Plain []
-  more : {b : ℕ} {l : List ℕ} → (b ≡ newline → ⊥) → Plain l → Plain (b ∷ l)
+  empty : Plain []
+  andByte : {b : ℕ} {l : List ℕ} → (b ≡ newline → ⊥) → Plain l → Plain (b ∷ l)
 
 -- the same seat with this line so far
 abbrev pub onLine : List ℕ → Seat → Seat
@@ -29,8 +33,8 @@ module _ (s : Seat) where
   -- so much of it is kept
   hears-plain : (k l : List ℕ) → length k ≤ lineRoom → Plain l → hears (onLine k s) l ≡ onLine (take lineRoom (k ++ l)) s
   unfolding hears kept
-  hears-plain k [] h none = ap (λ (x : List ℕ). onLine x s) (sym (take-all lineRoom (k ++ []) (rw append-nil h) ∙ append-nil k))
-  hears-plain k (b ∷ l) h (more e p) = ap (λ (x : Seat). hears x l) (heard-plain k b e) ∙ go (ltb longestLine (length k)) refl (λ x g. hears-plain x l g p)
+  hears-plain k [] h empty = ap (λ (x : List ℕ). onLine x s) (sym (take-all lineRoom (k ++ []) (rw append-nil h) ∙ append-nil k))
+  hears-plain k (b ∷ l) h (andByte e p) = ap (λ (x : Seat). hears x l) (heard-plain k b e) ∙ go (ltb longestLine (length k)) refl (λ x g. hears-plain x l g p)
     where
       go : (y : Bool) → ltb longestLine (length k) ≡ y → ((x : List ℕ) → length x ≤ lineRoom → hears (onLine x s) l ≡ onLine (take lineRoom (x ++ l)) s)
           → hears (onLine (cond y k (k ++ (b ∷ []))) s) l ≡ onLine (take lineRoom (k ++ b ∷ l)) s

@@ -3,7 +3,7 @@ ghost use mathlib.Core.Path.{_≡_};
 ghost use Prim.Native.Nat.{_≤_};
 ghost use lib.ListN.{length, take};
 ghost use Rattle.talk.specs.Talk.{kept, ended, heard, closed};
-ghost use Rattle.talk.specs.Places.{lineRoom, seatOf, atStart, Ready, Holds, Took};
+ghost use Rattle.talk.specs.Places.{lineRoom, seatOf, atStart, Ready, Seated, HeardPart};
 use lines::Why;
 use words::Table;
 
@@ -52,7 +52,7 @@ fn end_line(
     p: Place,
 ) -> Place
     requires { ⌜ Ready (now t) (now line) (now name) (now out) p ⌝ }
-    ensures { λ r. ⌜ Holds (ended (seatOf (now (t .entry)) (now (line .entry)) (now (out .entry)) p)) (now (t .exit)) (now (line .entry)) (now (out .exit)) r ⌝ }
+    ensures { λ r. ⌜ Seated (ended (seatOf (now (t .entry)) (now (line .entry)) (now (out .entry)) p)) (now (t .exit)) (now (line .entry)) (now (out .exit)) r ⌝ }
 {
     let number = std::num::wrapping_add_u64(p.number, 1);
     let len = p.len;
@@ -73,7 +73,7 @@ fn feed(
     p: Place,
 ) -> Place
     requires { ⌜ Ready (now t) (now line) (now name) (now out) p ⌝ }
-    ensures { λ r. ⌜ Holds (heard (seatOf (now (t .entry)) (now (line .entry)) (now (out .entry)) p) b) (now (t .exit)) (now (line .exit)) (now (out .exit)) r ⌝ }
+    ensures { λ r. ⌜ Seated (heard (seatOf (now (t .entry)) (now (line .entry)) (now (out .entry)) p) b) (now (t .exit)) (now (line .exit)) (now (out .exit)) r ⌝ }
 {
     if b == b'\n' {
         return end_line(t, line, name, out, p);
@@ -96,7 +96,7 @@ pub fn take(
     p: Place,
 ) -> Taken
     requires { ⌜ Ready (now t) (now line) (now name) (now out) p ⌝ }
-    ensures { λ r. ⌜ Took (seatOf (now (t .entry)) (now (line .entry)) (now (out .entry)) p) (now (chunk .entry)) (now (t .exit)) (now (line .exit)) (now (out .exit)) r ⌝ }
+    ensures { λ r. ⌜ HeardPart (seatOf (now (t .entry)) (now (line .entry)) (now (out .entry)) p) (now (chunk .entry)) (now (t .exit)) (now (line .exit)) (now (out .exit)) r ⌝ }
 {
     let last = out.len() - desk::TOP;
     let mut len = p.len;
@@ -131,7 +131,7 @@ pub fn close(
     p: Place,
 ) -> Place
     requires { ⌜ Ready (now t) (now line) (now name) (now out) p ⌝ }
-    ensures { λ r. ⌜ Holds (closed (seatOf (now (t .entry)) (now (line .entry)) (now (out .entry)) p)) (now (t .exit)) (now (line .entry)) (now (out .exit)) r ⌝ }
+    ensures { λ r. ⌜ Seated (closed (seatOf (now (t .entry)) (now (line .entry)) (now (out .entry)) p)) (now (t .exit)) (now (line .entry)) (now (out .exit)) r ⌝ }
 {
     if p.len == 0 {
         return p;

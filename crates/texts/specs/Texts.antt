@@ -1,5 +1,5 @@
 -- An answer as text.
-use Prim.Native.Nat.{ℕ}
+use Prim.Native.Nat.{ℕ, _+_, _*_}
 use mathlib.Core.List.{List, _++_}
 use Rattle.rules.specs.declared.Refusal.{Refusal}
 use Rattle.rules.specs.declared.Refusal.the-variants.{NoSuchHart, HartIdle, HartBusy, QueueEmpty, TableFull, PidsSpent, NoGroup, BadAddress, Unmapped, NoneSuch, StatusUnwritable, InitOutOfTurn, WrongWayOut, NotADevice, NameTooLong, NoRoom, SizeOutOfLimits, NoMemory}
@@ -7,7 +7,7 @@ use Rattle.rules.specs.declared.Answer.{Answer}
 use Rattle.rules.specs.declared.Answer.the-variants.{Done, Made, Handed, Reaped, Joined, Blocked, Refused}
 use Rattle.rules.specs.Answers.{numberOf}
 use Rattle.rules.specs.Listing.{bytes}
-use Rattle.pieces.specs.Pieces.{signedDigits, field}
+use Rattle.pieces.specs.Pieces.{signedDigits, field, numberTop}
 
 unfoldable pub refusalWords : Refusal → List ℕ
 refusalWords NoSuchHart = bytes "no such hart"
@@ -41,6 +41,12 @@ saidOf (Refused r) = field "refused " (numberOf r) ++ bytes " " ++ refusalWords 
 unfoldable pub answerText : Answer → List ℕ
 answerText a = saidOf a ++ bytes "\n"
 
--- at the longest, with 20 digits to a number
+-- ---- at the longest: a refusal's words; two numbers, or one and those words; the end of the line
+abbrev pub refusalTop : ℕ
+refusalTop = 18
+
+abbrev pub saidTop : ℕ
+saidTop = 8 + 2 * numberTop
+
 abbrev pub answerTop : ℕ
-answerTop = 49
+answerTop = saidTop + 1

@@ -1,40 +1,62 @@
 // An answer without the end of its line.
+ghost use mathlib.Core.Path.{_≡_};
 ghost use Prim.Native.Nat.{_+_, _≤_};
 ghost use lib.ListN.{length};
 ghost use Rattle.buffers.specs.Text.{Wrote};
-ghost use Rattle.texts.specs.Texts.{refusalWords, saidOf};
+ghost use Rattle.texts.specs.Rows.{upToDot};
+ghost use Rattle.texts.specs.Texts.{refusalWords, saidOf, refusalTop, saidTop};
 use rules::Answer;
 use rules::Refusal;
 
-fn write_refusal(out: &mut [u8], at: usize, r: Refusal) -> usize
-    requires { ⌜ at + 18 ≤ length (now out) ⌝ }
-    ensures { λ n. ⌜ Wrote (now (out .entry)) at (refusalWords r) (now (out .exit)) n × (n ≤ at + 18) ⌝ }
+// The words of each refusal, by its number, and dots behind them.
+const WORDS: [[u8; 18]; 18] = [
+    *b"no such hart......",
+    *b"hart idle.........",
+    *b"hart busy.........",
+    *b"queue empty.......",
+    *b"table full........",
+    *b"pids spent........",
+    *b"no group..........",
+    *b"bad address.......",
+    *b"unmapped..........",
+    *b"none such.........",
+    *b"status unwritable.",
+    *b"init out of turn..",
+    *b"wrong way out.....",
+    *b"not a device......",
+    *b"name too long.....",
+    *b"no room...........",
+    *b"size out of limits",
+    *b"no memory.........",
+];
+
+// How many bytes stand before the first dot.
+fn words_len(row: &[u8]) -> usize
+    ensures { λ r. ⌜ (r ≡ length (upToDot (now (row .entry)))) × (r ≤ length (now (row .entry))) ⌝ }
 {
-    match r {
-        Refusal::NoSuchHart => buffers::write(out, at, b"no such hart"),
-        Refusal::HartIdle => buffers::write(out, at, b"hart idle"),
-        Refusal::HartBusy => buffers::write(out, at, b"hart busy"),
-        Refusal::QueueEmpty => buffers::write(out, at, b"queue empty"),
-        Refusal::TableFull => buffers::write(out, at, b"table full"),
-        Refusal::PidsSpent => buffers::write(out, at, b"pids spent"),
-        Refusal::NoGroup => buffers::write(out, at, b"no group"),
-        Refusal::BadAddress => buffers::write(out, at, b"bad address"),
-        Refusal::Unmapped => buffers::write(out, at, b"unmapped"),
-        Refusal::NoneSuch => buffers::write(out, at, b"none such"),
-        Refusal::StatusUnwritable => buffers::write(out, at, b"status unwritable"),
-        Refusal::InitOutOfTurn => buffers::write(out, at, b"init out of turn"),
-        Refusal::WrongWayOut => buffers::write(out, at, b"wrong way out"),
-        Refusal::NotADevice => buffers::write(out, at, b"not a device"),
-        Refusal::NameTooLong => buffers::write(out, at, b"name too long"),
-        Refusal::NoRoom => buffers::write(out, at, b"no room"),
-        Refusal::SizeOutOfLimits => buffers::write(out, at, b"size out of limits"),
-        Refusal::NoMemory => buffers::write(out, at, b"no memory"),
+    let mut j = 0;
+    while j < row.len() {
+        if row[j] == b'.' {
+            return j;
+        }
+        j += 1;
     }
+    j
+}
+
+fn write_refusal(out: &mut [u8], at: usize, r: Refusal) -> usize
+    requires { ⌜ at + refusalTop ≤ length (now out) ⌝ }
+    ensures { λ n. ⌜ Wrote (now (out .entry)) at (refusalWords r) (now (out .exit)) n × (n ≤ at + refusalTop) ⌝ }
+{
+    let i = (answers::number_of(r) - 1) as usize;
+    let row = WORDS[i];
+    let len = words_len(&row);
+    buffers::write(out, at, &row[..len])
 }
 
 pub fn write_said(out: &mut [u8], at: usize, a: Answer) -> usize
-    requires { ⌜ at + 48 ≤ length (now out) ⌝ }
-    ensures { λ r. ⌜ Wrote (now (out .entry)) at (saidOf a) (now (out .exit)) r × (r ≤ at + 48) ⌝ }
+    requires { ⌜ at + saidTop ≤ length (now out) ⌝ }
+    ensures { λ r. ⌜ Wrote (now (out .entry)) at (saidOf a) (now (out .exit)) r × (r ≤ at + saidTop) ⌝ }
 {
     match a {
         Answer::Done => buffers::write(out, at, b"done"),

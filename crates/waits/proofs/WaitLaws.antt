@@ -1,5 +1,5 @@
 -- Each way through wait and join, as the rules have it.
-use Prim.Native.Nat.{ℕ, _+_}
+use Prim.Native.Nat.{ℕ}
 use mathlib.Core.Path.{_≡_, sym, ap, _∙_, subst}
 use mathlib.Core.Bool.{true, false, not, _||_}
 use mathlib.Core.Option.{Option, none, some}
@@ -18,7 +18,7 @@ use Rattle.rules.specs.declared.Answer.the-variants.{Reaped, Joined, Blocked, R
 use Rattle.rules.specs.Sizes.{ownChannel}
 use Rattle.rules.specs.Model.{Table, at, is}
 use Rattle.rules.specs.Moves.{sleepOn, lowest, reap}
-use Rattle.rules.specs.Calls.{unwritable, any, childOf, signed, waited, waitedFor, joined, joinedTo, joinedBy}
+use Rattle.rules.specs.Calls.{unwritable, isThere, childOf, signed, waited, waitedFor, joined, joinedTo, joinedBy}
 use Rattle.rules.specs.Runs.{step, wait, join}
 use Rattle.promises.specs.Laws.Bools.{or-yes}
 use Rattle.promises.specs.Order.Chains.{onCore}
@@ -29,10 +29,7 @@ use Rattle.scans.specs.declared.Test.the-variants.{ChildOf, ZombieChildOf, Thre
 use Rattle.scans.specs.Tests.{passes, asOption}
 use Rattle.taking.specs.declared.Got.the-variants.{No, Is}
 use Rattle.taking.specs.Parts.{callerOf}
-use Rattle.taking.proofs.Facts.{own-channel, given, moved, if-so, if-not, found-none, found-at, hart-no, hart-is, group-alone, group-in}
-
-sleeps-own : (t : Table) (h s i : ℕ) {u : Table} → u ≡ onCore (sleepOn h s (i + 1)) t → u ≡ onCore (sleepOn h s (ownChannel i)) t
-sleeps-own t h s i e = e ∙ ap (λ (ch : ℕ). onCore (sleepOn h s ch) t) (own-channel i)
+use Rattle.taking.proofs.Facts.{given, moved, if-so, if-not, found-none, found-at, hart-no, hart-is, group-alone, group-in}
 
 -- ---- wait
 module _ (t : Table) (h : ℕ) (w : Wish) (s : ℕ) where
@@ -46,22 +43,22 @@ module _ (t : Table) (h : ℕ) (w : Wish) (s : ℕ) where
 
   pub child-killed : {m : ProcMeta} → m ≡ at (t .core) s .meta → m .killed ≡ true → Makes (waitedFor t h w s none) (Refused NoneSuch) t
   unfolding waitedFor
-  child-killed f e = if-so _ (or-yes (not (any (lowest (childOf s) (t .core .slots)))) (ap (λ (m : ProcMeta). m .killed) (sym f) ∙ e))
+  child-killed f e = if-so _ (or-yes (not (isThere (lowest (childOf s) (t .core .slots)))) (ap (λ (m : ProcMeta). m .killed) (sym f) ∙ e))
 
   module _ (r : Found) (q : asOption r ≡ lowest (passes (ChildOf s)) (t .core .slots)) where
     -- neither a child nor life in the caller, by what was found
-    unfit : (x : Found) → x ≡ r → not (any (lowest (childOf s) (t .core .slots))) || at (t .core) s .meta .killed ≡ not (any (asOption x)) || at (t .core) s .meta .killed
+    unfit : (x : Found) → x ≡ r → not (isThere (lowest (childOf s) (t .core .slots))) || at (t .core) s .meta .killed ≡ not (isThere (asOption x)) || at (t .core) s .meta .killed
     unfolding passes
-    unfit x z = sym (ap (λ (o : Option ℕ). not (any o) || at (t .core) s .meta .killed) (ap asOption z ∙ q))
+    unfit x z = sym (ap (λ (o : Option ℕ). not (isThere o) || at (t .core) s .meta .killed) (ap asOption z ∙ q))
 
     pub childless : Nothing ≡ r → Makes (waitedFor t h w s none) (Refused NoneSuch) t
     unfolding waitedFor
     childless z = if-so _ (unfit Nothing z)
 
     module _ {i : ℕ} (z : At i ≡ r) {m : ProcMeta} (f : m ≡ at (t .core) s .meta) where
-      pub child-awaited : {u : Table} → m .killed ≡ false → u ≡ onCore (sleepOn h s (s + 1)) t → Makes (waitedFor t h w s none) Blocked u
+      pub child-awaited : {u : Table} → m .killed ≡ false → u ≡ onCore (sleepOn h s (ownChannel s)) t → Makes (waitedFor t h w s none) Blocked u
       unfolding waitedFor
-      child-awaited e k = if-not _ t (unfit (At i) z ∙ ap (λ (m : ProcMeta). m .killed) (sym f) ∙ e) (moved t (sleepOn h s (ownChannel s)) (sleeps-own t h s s k))
+      child-awaited e k = if-not _ t (unfit (At i) z ∙ ap (λ (m : ProcMeta). m .killed) (sym f) ∙ e) (moved t (sleepOn h s (ownChannel s)) k)
 
 module _ (t : Table) (h : ℕ) (w : Wish) where
   pub wait-no : (n : Refusal) → No n ≡ callerOf (t .core) h → Makes (step t (wait h w)) (Refused n) t
@@ -84,9 +81,9 @@ module _ (t : Table) (h : ℕ) (w : Wish) (s i : ℕ) where
   unfolding joinedTo
   thread-joined z e f g k = rw z (if-not _ t e (given (ap (λ (v : ℤ). Joined v) (g ∙ ap (λ (m : ProcMeta). signed (m .xstate)) f)) k))
 
-  pub thread-awaited : {u : Table} → is ZOMBIE (at (t .core) i) ≡ false → u ≡ onCore (sleepOn h s (i + 1)) t → Makes (joinedTo t h w s i) Blocked u
+  pub thread-awaited : {u : Table} → is ZOMBIE (at (t .core) i) ≡ false → u ≡ onCore (sleepOn h s (ownChannel i)) t → Makes (joinedTo t h w s i) Blocked u
   unfolding joinedTo
-  thread-awaited z k = rw z (moved t (sleepOn h s (ownChannel i)) (sleeps-own t h s i k))
+  thread-awaited z k = rw z (moved t (sleepOn h s (ownChannel i)) k)
 
 module _ (t : Table) (h : ℕ) (p : Pid) (w : Wish) (s : ℕ) where
   pub by-alone : Alone ≡ at (t .core) s .kin .group → Makes (joinedBy t h p w s) (Refused NoGroup) t

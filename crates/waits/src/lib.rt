@@ -66,7 +66,7 @@ fn await_child(t: &mut [u64; Table::WORDS], h: usize, w: Wish, s: usize) -> Answ
     let Found::At(_) = scans::find(t, Test::ChildOf(s)) else {
         return Answer::Refused(Refusal::NoneSuch);
     };
-    moves::sleep_on(t, h, s, (s as u64) + 1);
+    moves::sleep_on(t, h, s, moves::own_channel(s));
     Answer::Blocked
 }
 
@@ -100,7 +100,7 @@ fn join_to(t: &mut [u64; Table::WORDS], h: usize, w: Wish, s: usize, i: usize) -
         taking::free_proc(t, i);
         return Answer::Joined(signed(m.xstate));
     }
-    moves::sleep_on(t, h, s, (i as u64) + 1);
+    moves::sleep_on(t, h, s, moves::own_channel(i));
     Answer::Blocked
 }
 

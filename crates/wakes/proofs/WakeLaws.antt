@@ -1,5 +1,6 @@
 -- The rules' wake, kill and reparent, as the code goes through them.
 use Prim.Native.Nat.{ℕ, _+_}
+use native.Mathlib.Omega.{arith}
 use native.Mathlib.Numerals.{add-one}
 use mathlib.Core.Path.{_≡_, refl, ap, _∙_}
 use mathlib.Core.Bool.{true, false}
@@ -11,11 +12,10 @@ use Rattle.rules.specs.declared.Parent.the-variants.{Nobody, Of}
 use Rattle.rules.specs.declared.Kin.{Kin}
 use Prim.Native.Nat.{_<_}
 use lib.ListN.{length}
-use Rattle.rules.specs.Sizes.{slotCount}
+use Rattle.rules.specs.Sizes.{slotCount, ownChannel}
 use Rattle.rules.specs.Model.{Core, Table, at, is, onMeta, asKilled, withParent}
 use Rattle.rules.specs.Moves.{change, publish, sweep, publishIf, wakeOne, wake, wakeOf, slay, handOver, reparent}
 use Rattle.promises.specs.Laws.Bools.{and-no}
-use Rattle.promises.specs.Laws.Scans.{sweep-keeps}
 use Rattle.promises.specs.Order.Sound.{Queued}
 use Rattle.promises.specs.Order.States.{other}
 use Rattle.promises.specs.Order.Room.{queue-room}
@@ -46,17 +46,20 @@ pub sweep-none : (f : ℕ → Core → Core) (t : Table) → t ≡ onCore (sweep
 unfolding sweep onCore
 sweep-none f t = refl
 
-pub sweep-more : (f : ℕ → Core → Core) (t : Table) (n : ℕ) {a b : Table} → b ≡ onCore (f n) a → a ≡ onCore (sweep f n) t → b ≡ onCore (sweep f (n + 1)) t
+sweep-next : (f : ℕ → Core → Core) (t : Table) (n m : ℕ) {a b : Table} → m ≡ n + 1 → b ≡ onCore (f n) a → a ≡ onCore (sweep f n) t → b ≡ onCore (sweep f m) t
 unfolding sweep onCore
-sweep-more f t n e i = rw add-one (e ∙ ap (onCore (f n)) i)
+sweep-next f t n m z e i = rw (z, add-one) (e ∙ ap (onCore (f n)) i)
 
-pub sweep-next : (f : ℕ → Core → Core) (t : Table) (n m : ℕ) {a b : Table} → m ≡ n + 1 → b ≡ onCore (f n) a → a ≡ onCore (sweep f n) t → b ≡ onCore (sweep f m) t
-sweep-next f t n m z e i = rw z (sweep-more f t n e i)
+-- four slots more
+pub sweep-four : (f : ℕ → Core → Core) (t : Table) (n m : ℕ) {a b c d e : Table} → m ≡ n + 4 → b ≡ onCore (f n) a → c ≡ onCore (f (n + 1)) b → d ≡ onCore (f (n + 2)) c → e ≡ onCore (f (n + 3)) d
+    → a ≡ onCore (sweep f n) t → e ≡ onCore (sweep f m) t
+sweep-four f t n m z p q r s i =
+    sweep-next f t (n + 3) m (omega arith) s (sweep-next f t (n + 2) (n + 3) (omega arith) r (sweep-next f t (n + 1) (n + 2) (omega arith) q (sweep-next f t n (n + 1) refl p i)))
 
--- the order half way
-pub sweep-queued : (f : ℕ → Core → Core) → ((i : ℕ) (c : Core) → Queued c → Queued (f i c)) → (n : ℕ) (t : Table) {u : Table} → u ≡ onCore (sweep f n) t → Queued (t .core) → Queued (u .core)
+-- .. each of which keeps the queue's order
+pub one-queued : {f : ℕ → Core → Core} → ((i : ℕ) (c : Core) → Queued c → Queued (f i c)) → (i : ℕ) (a : Table) {b : Table} → b ≡ onCore (f i) a → Queued (a .core) → Queued (b .core)
 unfolding onCore
-sweep-queued f k n t e v = rw e (sweep-keeps Queued f k n (t .core) v)
+one-queued k i a e v = rw e (k i (a .core) v)
 
 pub wake-all : (ch : ℕ) (t : Table) {u : Table} → u ≡ onCore (sweep (wakeOne ch) slotCount) t → u ≡ onCore (wake ch) t
 unfolding wake
@@ -66,9 +69,9 @@ pub wake-nobody : (p : Parent) (t : Table) → p ≡ Nobody → t ≡ onCore (wa
 unfolding wakeOf onCore
 wake-nobody p t e = rw e
 
-pub wake-somebody : (p : Parent) (s : Slot) (t : Table) → p ≡ Of s → onCore (wake (s .0 + 1)) t ≡ onCore (wakeOf p) t
+pub wake-somebody : (p : Parent) (s : Slot) (t : Table) → p ≡ Of s → onCore (wake (ownChannel (s .0))) t ≡ onCore (wakeOf p) t
 unfolding wakeOf onCore
-wake-somebody p s t e = rw (e, add-one)
+wake-somebody p s t e = rw e
 
 -- ---- kill
 module _ (t : Table) (s : ℕ) where

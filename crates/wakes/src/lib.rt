@@ -19,24 +19,25 @@ fn wake_one(t: &mut [u64; Table::WORDS], i: usize, channel: u64)
     requires { ⌜ (i < slotCount) × Queued (tableOf (now t) .core) ⌝ }
     ensures { λ _. ⌜ tableOf (now (t .exit)) ≡ onCore (wakeOne channel i) (tableOf (now (t .entry))) ⌝ }
 {
-    let m = slot::meta_at(t, i);
-    if m.channel == channel {
-        if scans::is(t, i, ProcState::SLEEPING) {
+    if scans::is(t, i, ProcState::SLEEPING) {
+        let m = slot::meta_at(t, i);
+        if m.channel == channel {
             moves::make_runnable(t, i);
         }
     }
 }
 
-// Four slots a turn: no compiler unrolls a loop that publishes.
+// Four slots a turn, here and in `reparent`: see docs/SPEED.md.
 pub fn wake_up(t: &mut [u64; Table::WORDS], channel: u64)
     requires { ⌜ Queued (tableOf (now t) .core) ⌝ }
     ensures { λ _. ⌜ tableOf (now (t .exit)) ≡ onCore (wake channel) (tableOf (now (t .entry))) ⌝ }
 {
     for b in 0..Table::SLOTS / 4 {
-        wake_one(t, 4 * b, channel);
-        wake_one(t, 4 * b + 1, channel);
-        wake_one(t, 4 * b + 2, channel);
-        wake_one(t, 4 * b + 3, channel);
+        let i = 4 * b;
+        wake_one(t, i, channel);
+        wake_one(t, i + 1, channel);
+        wake_one(t, i + 2, channel);
+        wake_one(t, i + 3, channel);
     }
 }
 
@@ -48,7 +49,7 @@ pub fn wake_of(t: &mut [u64; Table::WORDS], p: Parent)
     let Parent::Of(s) = p else {
         return;
     };
-    wake_up(t, (s.0 as u64) + 1);
+    wake_up(t, moves::own_channel(s.0));
 }
 
 // Killed, and published if SLEEPING.
@@ -117,9 +118,10 @@ pub fn reparent(t: &mut [u64; Table::WORDS], s: usize)
 {
     let init = book::init(t);
     for b in 0..Table::SLOTS / 4 {
-        hand_over(t, init, s, 4 * b);
-        hand_over(t, init, s, 4 * b + 1);
-        hand_over(t, init, s, 4 * b + 2);
-        hand_over(t, init, s, 4 * b + 3);
+        let i = 4 * b;
+        hand_over(t, init, s, i);
+        hand_over(t, init, s, i + 1);
+        hand_over(t, init, s, i + 2);
+        hand_over(t, init, s, i + 3);
     }
 }

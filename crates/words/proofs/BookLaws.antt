@@ -13,10 +13,11 @@ use Rattle.rules.specs.Moves.{setGroup}
 use Rattle.promises.specs.Laws.Ring.{queueOf}
 use Rattle.promises.specs.Order.Chains.{onCore}
 use Rattle.words.specs.Layout.{sizeColumn, countColumn, placeColumn, headCell, tailCell, initCell, pidsCell, hartCell, columnAt, cellAt, wordCount, column, cell}
-use Rattle.words.specs.Reading.{slotsOf, placesOf, hartsOf, groupOf, groupsOf, coreOf, booksOf, tableOf, parentOf, turns}
+use Rattle.words.specs.Reading.{slotsOf, placesOf, hartsOf, groupOf, groupsOf, coreOf, booksOf, tableOf, parentOf, parentWord, InTable, turns}
 use Rattle.words.specs.Effects.{onBooks, withHart, withInit, withPids}
 use Rattle.words.proofs.Places.{column-range, cell-range, column-here, column-there, cell-kept, cell-here, cell-there, column-kept}
 use Rattle.words.proofs.Tabs.{getD-tab, tab-set}
+use Rattle.words.proofs.Fresh.{parent-back}
 use Rattle.words.proofs.Rows.{group-is, books-is, core-is, table-is, slots-kept, groups-kept, places-kept, ring-kept, harts-kept}
 
 -- ---- reading
@@ -51,17 +52,20 @@ module _ (w : List ℕ) (lw : length w ≡ wordCount) where
   in-words : (k : ℕ) → k < 4 + hartCount → cellAt k < length w
   in-words k b = omega (arith, lw, cell-range k b)
 
-  pub set-hart-law : (h v : ℕ) (p : Parent) → h < hartCount → parentOf v ≡ p → tableOf (set w (cellAt (hartCell h)) v) ≡ onCore (withHart h p) (tableOf w)
+  pub set-hart-law : (h : ℕ) (p : Parent) → h < hartCount → InTable p → tableOf (set w (cellAt (hartCell h)) (parentWord p)) ≡ onCore (withHart h p) (tableOf w)
   unfolding tableOf coreOf booksOf hartsOf onCore withHart
-  set-hart-law h v p b e =
+  set-hart-law h p b t =
       table-is
       (core-is (cell-slots w (hartCell h) v)
       (ap (queueOf slotCount turns) (ring-kept w _ (λ q c. column-kept w (hartCell h) v placeColumn q (omega arith) c) (apart headCell (omega arith)) (apart tailCell (omega arith))))
       (tab-set hartCount (λ i. parentOf (cell w (hartCell i))) (λ i. parentOf (cell (set w (cellAt (hartCell h)) v) (hartCell i))) h p Nobody b
-      (ap parentOf (cell-here w (hartCell h) v (in-words (hartCell h) (omega arith))) ∙ e)
+      (ap parentOf (cell-here w (hartCell h) v (in-words (hartCell h) (omega arith))) ∙ parent-back p t)
       (λ i _ n. ap parentOf (cell-there w (hartCell h) v (hartCell i) (λ f. n (omega arith))))))
       (books-is (cell-groups w (hartCell h) v) (ap parentOf (apart initCell (omega arith))) (apart pidsCell (omega arith)))
     where
+      v : ℕ
+      v = parentWord p
+
       apart : (j : ℕ) → j < 4 → cell (set w (cellAt (hartCell h)) v) j ≡ cell w j
       apart j l = cell-there w (hartCell h) v j (λ f. omega arith)
 
@@ -73,10 +77,10 @@ module _ (w : List ℕ) (lw : length w ≡ wordCount) where
       (ap (queueOf slotCount turns) (ring-kept w _ (λ p b. column-kept w k v placeColumn p (omega arith) b) (cell-there w k v headCell (λ e. omega arith)) (cell-there w k v tailCell (λ e. omega arith))))
       (harts-kept w _ (λ h b. cell-there w k v (hartCell h) (λ e. omega arith)))
 
-  pub set-init-law : (v : ℕ) (p : Parent) → parentOf v ≡ p → tableOf (set w (cellAt initCell) v) ≡ onBooks (withInit p) (tableOf w)
+  pub set-init-law : (p : Parent) → InTable p → tableOf (set w (cellAt initCell) (parentWord p)) ≡ onBooks (withInit p) (tableOf w)
   unfolding tableOf booksOf onBooks withInit
-  set-init-law v p e = table-is (books-cell initCell v (omega arith) (omega arith))
-      (books-is (cell-groups w initCell v) (ap parentOf (cell-here w initCell v (in-words initCell (omega arith))) ∙ e) (cell-there w initCell v pidsCell (λ f. omega arith)))
+  set-init-law p t = table-is (books-cell initCell (parentWord p) (omega arith) (omega arith))
+      (books-is (cell-groups w initCell _) (ap parentOf (cell-here w initCell _ (in-words initCell (omega arith))) ∙ parent-back p t) (cell-there w initCell _ pidsCell (λ f. omega arith)))
 
   pub set-pids-law : (v : ℕ) → tableOf (set w (cellAt pidsCell) v) ≡ onBooks (withPids v) (tableOf w)
   unfolding tableOf booksOf onBooks withPids

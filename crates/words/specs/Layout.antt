@@ -4,16 +4,74 @@ use mathlib.Core.List.{List}
 use lib.ListN.{getD}
 use Rattle.rules.specs.Sizes.{slotCount, hartCount}
 
--- of a slot: meta 0 to 5, kin 6 to 9, start 10 to 17; then of a group, and of a place of the ring
+-- of a slot: its meta,
+abbrev pub stateColumn : ℕ
+stateColumn = 0
+
+abbrev pub channelColumn : ℕ
+channelColumn = 1
+
+abbrev pub killedColumn : ℕ
+killedColumn = 2
+
+abbrev pub xstateColumn : ℕ
+xstateColumn = 3
+
+abbrev pub pidColumn : ℕ
+pidColumn = 4
+
+abbrev pub queuedColumn : ℕ
+queuedColumn = 5
+
+-- its kin,
+abbrev pub groupColumn : ℕ
+groupColumn = 6
+
+abbrev pub parentColumn : ℕ
+parentColumn = 7
+
+abbrev pub threadColumn : ℕ
+threadColumn = 8
+
+abbrev pub systemColumn : ℕ
+systemColumn = 9
+
+-- its start
+abbrev pub belowColumn : ℕ
+belowColumn = 10
+
+abbrev pub spColumn : ℕ
+spColumn = 11
+
+abbrev pub entryColumn : ℕ
+entryColumn = 12
+
+abbrev pub topColumn : ℕ
+topColumn = 13
+
+abbrev pub argColumn : ℕ
+argColumn = 14
+
+abbrev pub retColumn : ℕ
+retColumn = 15
+
+abbrev pub name0Column : ℕ
+name0Column = 16
+
+abbrev pub name1Column : ℕ
+name1Column = 17
+
 abbrev pub slotColumns : ℕ
 slotColumns = 18
 
+-- of a group
 abbrev pub sizeColumn : ℕ
 sizeColumn = 18
 
 abbrev pub countColumn : ℕ
 countColumn = 19
 
+-- of a place of the ring
 abbrev pub placeColumn : ℕ
 placeColumn = 20
 

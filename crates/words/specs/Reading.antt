@@ -1,5 +1,5 @@
 -- The table that the words hold. Every list of words holds one.
-use Prim.Native.Nat.{ℕ, zero, suc, _-_, _/_, _%_, _^_, _<_}
+use Prim.Native.Nat.{ℕ, zero, suc, _+_, _-_, _/_, _%_, _^_, _<_}
 use mathlib.Core.Bool.{Bool, not, cond}
 use mathlib.Core.List.{List, [], _∷_, _++_}
 use lib.ListN.{getD}
@@ -18,8 +18,9 @@ use Rattle.rules.specs.declared.Group.{Group}
 use Rattle.rules.specs.Sizes.{slotCount, groupCount, hartCount, trapframe}
 use Rattle.rules.specs.Model.{Core, Books, Table, pid, slot}
 use Rattle.promises.specs.Laws.Ring.{Ring, queueOf}
+pub use Rattle.promises.specs.Order.Sound.{InTable, InGroups}
 use Rattle.words.specs.declared.slot.StartWords.{StartWords}
-use Rattle.words.specs.Layout.{slotColumns, sizeColumn, countColumn, placeColumn, headCell, tailCell, initCell, pidsCell, hartCell, column, cell}
+use Rattle.words.specs.Layout.{stateColumn, channelColumn, killedColumn, xstateColumn, pidColumn, queuedColumn, groupColumn, parentColumn, threadColumn, systemColumn, belowColumn, spColumn, entryColumn, topColumn, argColumn, retColumn, name0Column, name1Column, slotColumns, sizeColumn, countColumn, placeColumn, headCell, tailCell, initCell, pidsCell, hartCell, column, cell}
 
 -- f k, f (k + 1), .., n of them
 unfoldable pub tabFrom : {A : Type 0} → ℕ → ℕ → (ℕ → A) → List A
@@ -50,16 +51,28 @@ bytesOf n = tab 8 (λ i. n / 256 ^ i % 256)
 abbrev pub turns : ℕ
 turns = 2 ^ 32
 
+-- ---- the word for a meaning: no is 0, yes is 1; none is 0, a slot or a group one more than its number
+abbrev pub flagWord : Bool → ℕ
+flagWord b = cond b 1 0
+
+abbrev pub parentWord : Parent → ℕ
+parentWord Nobody = 0
+parentWord (Of s) = s .0 + 1
+
+abbrev pub memberWord : Member → ℕ
+memberWord Alone = 0
+memberWord (In g) = g + 1
+
 -- ---- one slot
 -- the words of slot s, one for each column
 unfoldable pub rowOf : List ℕ → ℕ → List ℕ
 rowOf w s = tab slotColumns (λ f. column w f s)
 
 abbrev pub metaOf : List ℕ → ProcMeta
-metaOf r = record { state = stateOf (getD r 0 0); channel = getD r 1 0; killed = flagOf (getD r 2 0); xstate = getD r 3 0; pid = pid (getD r 4 0); queued = flagOf (getD r 5 0) }
+metaOf r = record { state = stateOf (getD r stateColumn 0); channel = getD r channelColumn 0; killed = flagOf (getD r killedColumn 0); xstate = getD r xstateColumn 0; pid = pid (getD r pidColumn 0); queued = flagOf (getD r queuedColumn 0) }
 
 abbrev pub kinOf : List ℕ → Kin
-kinOf r = record { group = memberOf (getD r 6 0); parent = parentOf (getD r 7 0); thread = flagOf (getD r 8 0); system = flagOf (getD r 9 0) }
+kinOf r = record { group = memberOf (getD r groupColumn 0); parent = parentOf (getD r parentColumn 0); thread = flagOf (getD r threadColumn 0); system = flagOf (getD r systemColumn 0) }
 
 -- the trapframe stands as its distance below TRAPFRAME, the name in two words
 abbrev pub startOf : StartWords → Start
@@ -75,14 +88,14 @@ startOf b = record {
 
 abbrev pub startWordsOf : List ℕ → StartWords
 startWordsOf r = record {
-  below = getD r 10 0;
-  sp = getD r 11 0;
-  entry = getD r 12 0;
-  top = getD r 13 0;
-  arg = getD r 14 0;
-  ret = getD r 15 0;
-  name0 = getD r 16 0;
-  name1 = getD r 17 0;
+  below = getD r belowColumn 0;
+  sp = getD r spColumn 0;
+  entry = getD r entryColumn 0;
+  top = getD r topColumn 0;
+  arg = getD r argColumn 0;
+  ret = getD r retColumn 0;
+  name0 = getD r name0Column 0;
+  name1 = getD r name1Column 0;
 }
 
 unfoldable pub processOf : List ℕ → Process
@@ -115,12 +128,3 @@ booksOf w = record { groups = groupsOf w; init = parentOf (cell w initCell); pid
 
 unfoldable pub tableOf : List ℕ → Table
 tableOf w = record { core = coreOf w; books = booksOf w }
-
--- ---- a parent or a group that the table has
-abbrev pub InTable : Parent → Type 0
-InTable Nobody = Unit {0}
-InTable (Of s) = s .0 < slotCount
-
-abbrev pub InGroups : Member → Type 0
-InGroups Alone = Unit {0}
-InGroups (In g) = g < groupCount

@@ -1,7 +1,7 @@
 // What one word means, and the word for a meaning. Every word means something.
 ghost use mathlib.Core.Path.{_≡_};
 ghost use Rattle.rules.specs.Model.{stateCode};
-ghost use Rattle.words.specs.Reading.{stateOf, flagOf, parentOf, memberOf, InTable, InGroups};
+ghost use Rattle.words.specs.Reading.{stateOf, flagOf, parentOf, memberOf, flagWord, parentWord, memberWord, InTable, InGroups};
 use crate::Table;
 use rules::Member;
 use rules::Parent;
@@ -41,7 +41,7 @@ pub fn flag_of(n: u64) -> bool
 }
 
 pub fn flag_word(b: bool) -> u64
-    ensures { λ r. ⌜ flagOf r ≡ b ⌝ }
+    ensures { λ r. ⌜ r ≡ flagWord b ⌝ }
 {
     if b { 1 } else { 0 }
 }
@@ -57,7 +57,7 @@ pub fn parent_of(n: u64) -> Parent
 
 pub fn parent_word(p: Parent) -> u64
     requires { ⌜ InTable p ⌝ }
-    ensures { λ r. ⌜ parentOf r ≡ p ⌝ }
+    ensures { λ r. ⌜ r ≡ parentWord p ⌝ }
 {
     match p {
         Parent::Nobody => 0,
@@ -76,7 +76,7 @@ pub fn member_of(n: u64) -> Member
 
 pub fn member_word(m: Member) -> u64
     requires { ⌜ InGroups m ⌝ }
-    ensures { λ r. ⌜ memberOf r ≡ m ⌝ }
+    ensures { λ r. ⌜ r ≡ memberWord m ⌝ }
 {
     match m {
         Member::Alone => 0,

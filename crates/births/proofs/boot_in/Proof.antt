@@ -2,6 +2,8 @@ use Rattle.births.proofs.BirthLaws.{init-law}
 use Rattle.words.specs.Reading.{tableOf}
 use mathlib.Core.Path.{ap, _∙_}
 use Rattle.rules.specs.Moves.{setGroup}
+use Rattle.rules.specs.Listing.{bytes}
+use Rattle.rules.specs.Calls.{initName}
 use Rattle.words.specs.Effects.{onBooks, withInit}
 use borrow.Author.Needs.{needs}
 use Rattle.births.proofs.boot_in.Statement.{statement}
@@ -13,11 +15,17 @@ pids-requires c κs = search needs
 new-group-requires : tie.Need-new-group-requires
 new-group-requires c κs = search needs
 
+slice-aggregate-pack : tie.Need-slice-aggregate-pack
+slice-aggregate-pack c = search needs
+
+pack-requires : tie.Need-pack-requires
+pack-requires c κs = search needs
+
 user-sp-requires : tie.Need-user-sp-requires
 user-sp-requires c κs = search needs
 
-mul-t12 : tie.Need-mul-t12
-mul-t12 c = search needs
+mul-t16 : tie.Need-mul-t16
+mul-t16 c = search needs
 
 fill-requires : tie.Need-fill-requires
 fill-requires c κs = search needs
@@ -29,7 +37,9 @@ set-init-requires : tie.Need-set-init-requires
 set-init-requires c κs = search needs
 
 returns : tie.Need-returns
-returns c = init-law (tableOf (c .before .before .before .before .before .before .before .before .before .before .before .args .t .now)) (c .before .before .before .before .before .before .before .before .before .before .before .args .s) _ (c .before .before .before .before .before .before .before .new-group .result) (c .before .before .before .before .before .before .user-sp .result) (c .before .before .before .before .before .before .before .before .before .pids .ensures) (c .before .before .before .before .before .before .before .new-group .ensures .0) (c .before .before .before .before .before .before .user-sp .ensures)
+unfolding initName bytes
+returns c = let a = c .before .before .before .before .before .before .before .before .before .before .before .before .before .args in
+    init-law (tableOf (a .t .now)) (a .s) _ (c .before .before .before .before .before .before .before .before .before .new-group .result) (c .before .before .before .before .before .before .user-sp .result) (c .before .before .before .before .before .before .before .pack .result .low) (c .before .before .before .before .before .before .before .pack .result .high) (c .before .before .before .before .before .before .before .before .before .before .before .pids .ensures) (c .before .before .before .before .before .before .before .before .before .new-group .ensures .0) (c .before .before .before .before .before .before .user-sp .ensures) (c .before .before .before .before .before .before .before .pack .ensures)
     (c .set-init .ensures ∙ ap (onBooks (withInit _)) (c .before .before .set-group .ensures ∙ ap (onBooks (setGroup _ _)) (c .before .before .before .before .fill .ensures)))
 
 pub boot-in-spec : {M : Type 1} → statement M
@@ -38,8 +48,10 @@ boot-in-spec =
     (tie.spec
     pids-requires
     new-group-requires
+    slice-aggregate-pack
+    pack-requires
     user-sp-requires
-    mul-t12
+    mul-t16
     fill-requires
     set-group-requires
     set-init-requires

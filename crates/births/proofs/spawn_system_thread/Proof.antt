@@ -2,6 +2,7 @@ use Rattle.births.proofs.BirthLaws.{spawn-long, spawn-no, spawn-is}
 use Rattle.promises.specs.Did.{did}
 use Rattle.words.specs.Reading.{tableOf}
 use mathlib.Core.Path.{sym, subst, _∙_}
+use native.Mathlib.Omega.{arith}
 use Rattle.taking.specs.Parts.{InSlots}
 use Rattle.taking.proofs.Facts.{taken-room}
 use Rattle.rules.specs.Sizes.{nameSize}
@@ -11,7 +12,7 @@ use Rattle.births.proofs.spawn_system_thread.Tie as tie
 
 returns : tie.Need-returns
 unfolding nameSize
-returns c = did (c .before .before .pre) (spawn-long (tableOf (c .before .before .args .t .now)) (c .before .before .args .name .now) _ (c .if1 .taken))
+returns c = did (c .before .before .pre) (spawn-long (tableOf (c .before .before .args .t .now)) (c .before .before .args .name .now) _ (omega arith))
 
 alloc-proc-requires : tie.Need-alloc-proc-requires
 alloc-proc-requires c κs = search needs
@@ -27,11 +28,11 @@ spawn-in-requires c κs = ((subst InSlots (c .before .before .s .given .1) (c .b
 
 returns-2 : tie.Need-returns-2
 unfolding nameSize
-returns-2 c = did (c .before .before .before .before .before .before .before .pre) (spawn-no (tableOf (c .before .before .before .before .before .before .before .args .t .now)) (c .before .before .before .before .before .before .before .args .name .now) _ (c .before .before .before .before .before .if1 .left) (sym (c .before .n .given .1) ∙ c .before .before .before .alloc-proc .ensures .0) (c .before .before .before .alloc-proc .ensures .1))
+returns-2 c = did (c .before .before .before .before .before .before .before .pre) (spawn-no (tableOf (c .before .before .before .before .before .before .before .args .t .now)) (c .before .before .before .before .before .before .before .args .name .now) _ (omega arith) (sym (c .before .n .given .1) ∙ c .before .before .before .alloc-proc .ensures .0) (c .before .before .before .alloc-proc .ensures .1))
 
 returns-3 : tie.Need-returns-3
 unfolding nameSize
-returns-3 c = did (c .before .before .before .before .before .before .before .before .before .pre) (spawn-is (tableOf (c .before .before .before .before .before .before .before .before .before .args .t .now)) (c .before .before .before .before .before .before .before .before .before .args .name .now) _ (c .before .before .before .before .before .before .before .if1 .left) (sym (c .before .before .before .s .given .1) ∙ c .before .before .before .before .before .alloc-proc .ensures .0) (c .before .before .before .before .before .alloc-proc .ensures .1) (c .spawn-in .ensures))
+returns-3 c = did (c .before .before .before .before .before .before .before .before .before .pre) (spawn-is (tableOf (c .before .before .before .before .before .before .before .before .before .args .t .now)) (c .before .before .before .before .before .before .before .before .before .args .name .now) _ (omega arith) (sym (c .before .before .before .s .given .1) ∙ c .before .before .before .before .before .alloc-proc .ensures .0) (c .before .before .before .before .before .alloc-proc .ensures .1) (c .spawn-in .ensures))
 
 pub spawn-system-thread-spec : {M : Type 1} → statement M
 spawn-system-thread-spec =

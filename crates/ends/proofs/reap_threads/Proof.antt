@@ -1,7 +1,7 @@
 use borrow.Author.Tests.{not-true}
 use Rattle.ends.proofs.ReapLaws.{looks, looks-none, looks-more, looks-all, looks-still}
 use Prim.Native.Nat.{_-_, _≤_}
-use mathlib.Core.Path.{_≡_}
+use mathlib.Core.Path.{_≡_, sym, _∙_}
 use Rattle.words.specs.Reading.{tableOf}
 use native.Mathlib.Omega.{arith}
 use Rattle.rules.specs.Sizes.{slotCount}
@@ -22,7 +22,7 @@ reap-first-requires : tie.Need-reap-first-requires Inv-loop μ-loop
 reap-first-requires c κs = tt
 
 returns : tie.Need-returns Inv-loop μ-loop
-returns c = looks-still _ _ _ (c .before .before .before .before .loop .inv .0) (c .before .before .before .before .loop .inv .1) (c .before .reap-first .ensures .0) (c .before .reap-first .ensures .1 (not-true _ (c .if1 .taken)))
+returns c = looks-still _ _ _ (c .before .before .before .before .loop .inv .0) (c .before .before .before .before .loop .inv .1) (c .before .reap-first .ensures .0) (sym (not-true _ (c .if1 .taken)) ∙ c .before .reap-first .ensures .1)
 
 add-counter : tie.Need-add-counter Inv-loop μ-loop
 unfolding slotCount

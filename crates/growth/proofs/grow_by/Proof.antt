@@ -23,7 +23,7 @@ group-at-requires : tie.Need-group-at-requires
 group-at-requires c κs = subst InGroups (c .before .before .group .given .1) (c .before .before .before .before .kin-at .ensures .1)
 
 new-size-requires : tie.Need-new-size-requires
-new-size-requires c κs = search needs
+new-size-requires c κs = rw (c .group-at .ensures) (c .before .before .before .before .before .before .before .pre .1 .counted .top _)
 
 enum-known-n : tie.Need-enum-known-n
 enum-known-n c = search needs

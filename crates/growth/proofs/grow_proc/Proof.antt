@@ -18,7 +18,7 @@ enum-known-c-2 : tie.Need-enum-known-c-2
 enum-known-c-2 c = search needs
 
 grow-by-requires : tie.Need-grow-by-requires
-grow-by-requires c κs = subst (InHart _) (c .before .before .c2 .given .1) (c .before .before .before .before .caller-on .ensures .1) .0
+grow-by-requires c κs = (subst (InHart _) (c .before .before .c2 .given .1) (c .before .before .before .before .caller-on .ensures .1) .0, c .before .before .before .before .before .before .pre)
 
 returns : tie.Need-returns
 returns c = did (c .before .before .before .before .before .pre) (grow-no (tableOf (c .before .before .before .before .before .args .t .now)) _ _ _ _ (sym (c .before .c .given .1) ∙ c .before .before .before .caller-on .ensures .0))

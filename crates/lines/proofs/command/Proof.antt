@@ -1,5 +1,5 @@
-use Rattle.lines.proofs.MeaningLaws.{by-spawn, by-call, cut-short}
-use Rattle.lines.specs.Meaning.{commandMeans}
+use Rattle.lines.proofs.MeaningLaws.{by-spawn, by-list, by-show, by-fresh, by-call, cut-short}
+use Rattle.lines.proofs.GrammarLaws.{is-spawn}
 use native.Mathlib.Omega.{arith}
 use borrow.Author.Needs.{needs}
 use Rattle.lines.proofs.command.Statement.{statement}
@@ -18,7 +18,7 @@ part-write-name-end : tie.Need-part-write-name-end
 part-write-name-end c = search needs
 
 write-name-requires : tie.Need-write-name-requires
-write-name-requires c κs = (rw (c .before .before .next .ensures .word) (c .before .before .before .before .before .before .before .pre .3 (c .before .before .before .match .keys1)), omega (arith, cut-short (c .before .before .next .ensures), c .before .before .before .before .before .before .before .pre .2))
+write-name-requires c κs = (rw (c .before .before .next .ensures .word) (c .before .before .before .before .before .before .before .pre .3 (is-spawn _ (c .before .before .before .match .keys1))), omega (arith, cut-short (c .before .before .next .ensures), c .before .before .before .before .before .before .before .pre .2))
 
 slice-read-t18 : tie.Need-slice-read-t18
 slice-read-t18 c = search needs
@@ -36,16 +36,13 @@ returns : tie.Need-returns
 returns c = by-spawn _ _ _ _ (c .before .before .before .before .before .before .before .match .keys1) (c .before .before .before .before .before .before .next .ensures .word) (c .before .before .before .write-name .ensures)
 
 returns-2 : tie.Need-returns-2
-unfolding commandMeans
-returns-2 c = rw (c .before .match .keys2)
+returns-2 c = by-list _ _ _ (c .before .match .keys2)
 
 returns-3 : tie.Need-returns-3
-unfolding commandMeans
-returns-3 c = rw (c .match .keys3)
+returns-3 c = by-show _ _ _ (c .match .keys3)
 
 returns-4 : tie.Need-returns-4
-unfolding commandMeans
-returns-4 c = rw (c .match .keys4)
+returns-4 c = by-fresh _ _ _ (c .match .keys4)
 
 same-length-2 : tie.Need-same-length-2
 same-length-2 c = search needs

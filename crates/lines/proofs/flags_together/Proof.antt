@@ -1,4 +1,6 @@
 use Rattle.lines.specs.Meaning.{flagsTogether}
+use Rattle.lines.specs.Grammar.{isCommand}
+use Rattle.lines.proofs.GrammarLaws.{thread-is}
 use borrow.Author.Tests.{eq-eqb, ne-eqb}
 use borrow.Author.Needs.{needs}
 use Rattle.lines.proofs.flags_together.Statement.{statement}
@@ -26,12 +28,12 @@ same-length : tie.Need-same-length
 same-length c = search needs
 
 returns : tie.Need-returns
-unfolding flagsTogether
-returns c = rw (eq-eqb (c .before .before .before .before .before .before .before .args .k) 5 (c .before .before .before .before .before .if1 .taken), c .bits .ensures)
+unfolding flagsTogether isCommand
+returns c = rw (thread-is, eq-eqb (c .before .before .before .before .before .before .before .args .k) 5 (c .before .before .before .before .before .if1 .taken), c .bits .ensures)
 
 returns-2 : tie.Need-returns-2
-unfolding flagsTogether
-returns-2 c = rw (ne-eqb (c .before .before .args .k) 5 (c .if1 .left))
+unfolding flagsTogether isCommand
+returns-2 c = rw (thread-is, ne-eqb (c .before .before .args .k) 5 (c .if1 .left))
 
 pub flags-together-spec : {M : Type 1} → statement M
 flags-together-spec =

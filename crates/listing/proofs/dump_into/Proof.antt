@@ -1,5 +1,5 @@
 use mathlib.Core.Path.{_≡_, sym, _∙_}
-use native.Mathlib.Nat.{zero-add}
+use native.Mathlib.Omega.{arith}
 use lib.ListN.{length}
 use borrow.Author.Needs.{needs}
 use Rattle.rules.specs.declared.Room.the-variants.{Fits}
@@ -20,7 +20,7 @@ enum-known-n : tie.Need-enum-known-n
 enum-known-n c = search needs
 
 write-listing-requires : tie.Need-write-listing-requires
-write-listing-requires c κs = rw zero-add (room-enough _ _ (fits-told _ _ _ (answer (c .before .before)) .0))
+write-listing-requires c κs = omega (arith, room-enough _ _ (fits-told _ _ _ (answer (c .before .before)) .0))
 
 enum-known-why : tie.Need-enum-known-why
 enum-known-why c = search needs

@@ -1,7 +1,8 @@
-use Rattle.moves.proofs.MoveLaws.{sleep-law}
-use mathlib.Core.Path.{ap, _∙_}
+use Rattle.moves.proofs.MoveLaws.{stop-law}
+use mathlib.Core.Path.{_∙_}
 use Rattle.words.specs.Reading.{tableOf}
 use Rattle.rules.specs.Model.{asSleeping}
+use Rattle.rules.specs.Moves.{sleepOn}
 use borrow.Author.Needs.{needs}
 use Rattle.moves.proofs.sleep_on.Statement.{statement}
 use Rattle.moves.proofs.sleep_on.Tie as tie
@@ -16,8 +17,8 @@ set-meta-requires : tie.Need-set-meta-requires
 set-meta-requires c κs = search needs
 
 returns : tie.Need-returns
-returns c = c .set-meta .ensures
-    ∙ sleep-law (tableOf (c .before .before .before .before .before .before .before .args .t .now)) (c .before .before .before .before .before .before .before .args .h) (c .before .before .before .before .before .before .before .args .s) (c .before .before .before .before .before .idle .ensures) (c .before .before .before .before .before .before .before .args .channel) _ (ap (asSleeping (c .before .before .before .before .before .before .before .args .channel)) (c .before .before .before .meta-at .ensures))
+unfolding sleepOn
+returns c = let a = c .before .before .before .before .before .before .before .args in c .set-meta .ensures ∙ stop-law (tableOf (a .t .now)) (a .h) (a .s) (c .before .before .before .before .before .idle .ensures) (asSleeping (a .channel)) _ (c .before .before .before .meta-at .ensures)
 
 pub sleep-on-spec : {M : Type 1} → statement M
 sleep-on-spec = tie.close (tie.spec idle-requires meta-at-requires set-meta-requires returns)

@@ -1,7 +1,6 @@
 use Rattle.words.specs.Reading.{tableOf}
 use Rattle.observers.proofs.PastLaws.{queue-past, queue-in}
 use native.Mathlib.Omega.{arith}
-use Rattle.promises.specs.Order.Room.{queue-fits}
 use borrow.Author.Needs.{needs}
 use Rattle.observers.proofs.queued.Statement.{statement}
 use Rattle.observers.proofs.queued.Tie as tie
@@ -13,7 +12,7 @@ returns : tie.Need-returns
 returns c = queue-past (tableOf (c .before .before .args .t .now) .core .queue) (c .before .before .args .k) (omega (arith, c .if1 .taken, c .before .queue-len .ensures))
 
 queued-at-requires : tie.Need-queued-at-requires
-queued-at-requires c κs = (omega (arith, c .if1 .left, c .before .queue-len .ensures), queue-fits _ (c .before .before .pre .queued))
+queued-at-requires c κs = (omega (arith, c .if1 .left, c .before .queue-len .ensures), c .before .before .pre)
 
 returns-2 : tie.Need-returns-2
 returns-2 c = queue-in (tableOf (c .before .before .before .args .t .now) .core .queue) (c .before .before .before .args .k) (omega (arith, c .before .if1 .left, c .before .before .queue-len .ensures)) (c .queued-at .ensures .0)

@@ -11,12 +11,12 @@ use Rattle.rules.specs.Sizes.{ownChannel}
 use Rattle.rules.specs.Model.{Table, at, free, is, isSlot, slot}
 use Rattle.rules.specs.Moves.{sleepOn, zombieOn, sleepsOn, wake, wakeOf, slay, reparent}
 use Rattle.rules.specs.Calls.{threadOf, departing}
-use Rattle.promises.specs.Laws.Lists.{and-left, clash}
+use Rattle.promises.specs.Laws.Bools.{and-left, clash}
 use Rattle.promises.specs.Order.Sound.{Sound, Lives}
-use Rattle.promises.specs.Order.Wakes.{wake-calm, wake-empties}
-use Rattle.promises.specs.Order.Chains.{onCore, runs, joining, Farewell, sleeping, dying, Chain, more, chained}
+use Rattle.promises.specs.Order.Wakes.{wake-calm, wakeOf-calm, wake-empties}
+use Rattle.promises.specs.Order.Chains.{onCore, runs, joining, Farewell, sleeping, dying, Chain, andThen, chained}
 use Rattle.promises.specs.Order.Kept.{chain-sound}
-use Rattle.promises.specs.Calls.Walks.{wake-chain, wakeOf-chain, wake-harts, wakeOf-harts, wakeOf-calm, slay-chain, slay-calm, slay-harts, reparent-chain, reparent-steady}
+use Rattle.promises.specs.Calls.Walks.{wake-chain, wakeOf-chain, wake-harts, wakeOf-harts, slay-chain, slay-calm, slay-harts, reparent-chain, reparent-steady, reparent-clears}
 
 -- a thread is used
 pub thread-used : (t : Table) → Sound t → (i : ℕ) → at (t .core) i .kin .thread ≡ true → is UNUSED (at (t .core) i) ≡ false
@@ -42,7 +42,7 @@ module _ (t : Table) (w : Sound t) (h s : ℕ) (e : runs t h s) where
   pub blocked-chain : (i : ℕ) → at (t .core) s .kin .thread ≡ false → threadOf (at (t .core) s .kin .group) (at (t .core) i) ≡ true → is ZOMBIE (at (t .core) i) ≡ false
       → Chain t (onCore (λ c. sleepOn h s (ownChannel i) (slay i c)) t)
   unfolding onCore threadOf
-  blocked-chain i y k z = more (slay-chain t i (thread-used t w i thread)) (sleeping h s (ownChannel i) (on-hart (slay-harts i (t .core))) (joining i apart lives))
+  blocked-chain i y k z = andThen (slay-chain t i (thread-used t w i thread)) (sleeping h s (ownChannel i) (on-hart (slay-harts i (t .core))) (joining i apart lives))
     where
       thread : at (t .core) i .kin .thread ≡ true
       thread = and-left _ _ k
@@ -65,6 +65,10 @@ module _ (t : Table) (w : Sound t) (h s : ℕ) (e : runs t h s) where
   unfolding orphans
   hand-over = reparent-chain t s w
 
+  handed-over : isSlot s (t .books .init) ≡ false → (j : ℕ) → isSlot s (at (orphans .core) j .kin .parent) ≡ false
+  unfolding orphans onCore
+  handed-over n = reparent-clears (t .books .init) s n (t .core) (w .queued .tall)
+
   same-thread : (k : Kin) → k ≡ at (orphans .core) s .kin → k .thread ≡ at (t .core) s .kin .thread
   unfolding orphans onCore
   same-thread k f = ap (λ (x : Kin). x .thread) f ∙ reparent-steady (t .books .init) s (t .core) .thread s
@@ -80,7 +84,7 @@ module _ (t : Table) (w : Sound t) (h s : ℕ) (e : runs t h s) where
   -- a leader wakes its parent
   pub leader-chain : (x : ℕ) → at (t .core) s .kin .thread ≡ false → at (t .core) s .kin .system ≡ false → isSlot s (t .books .init) ≡ false → Chain t (onCore (λ _. zombieOn h s x (departing t s)) t)
   unfolding onCore departing orphans
-  leader-chain x y v n = more (chained hand-over (wakeOf-chain orphans parent sound)) (dying h s x (same-harts _ (wakeOf-harts parent (orphans .core))) bye)
+  leader-chain x y v n = andThen (chained hand-over (wakeOf-chain orphans parent sound)) (dying h s x (same-harts _ (wakeOf-harts parent (orphans .core))) bye)
     where
       parent : Parent
       parent = at (orphans .core) s .kin .parent
@@ -95,6 +99,7 @@ module _ (t : Table) (w : Sound t) (h s : ℕ) (e : runs t h s) where
       bye = record {
         mortal = n;
         user = same-system _ kin ∙ v;
+        childless = λ j. rw (wakeOf-calm parent (orphans .core) j .kin) (handed-over n j);
         joiners = λ f. absurd (clash f (same-thread _ kin ∙ y));
         parent = λ _ q f. wakeOf-empties parent orphans sound q (rw kin at f);
       }
@@ -103,7 +108,7 @@ module _ (t : Table) (w : Sound t) (h s : ℕ) (e : runs t h s) where
   pub thread-chain : (x : ℕ) → at (t .core) s .kin .thread ≡ true → at (t .core) s .kin .system ≡ false → isSlot s (t .books .init) ≡ false
       → Chain t (onCore (λ c. zombieOn h s x (wake (ownChannel s) (reparent (t .books .init) s c))) t)
   unfolding onCore orphans
-  thread-chain x y v n = more (chained hand-over (wake-chain orphans (ownChannel s) sound)) (dying h s x (same-harts _ (wake-harts (ownChannel s) (orphans .core))) bye)
+  thread-chain x y v n = andThen (chained hand-over (wake-chain orphans (ownChannel s) sound)) (dying h s x (same-harts _ (wake-harts (ownChannel s) (orphans .core))) bye)
     where
       sound : Sound orphans
       sound = chain-sound w hand-over
@@ -111,6 +116,7 @@ module _ (t : Table) (w : Sound t) (h s : ℕ) (e : runs t h s) where
       bye : Farewell (onCore (wake (ownChannel s)) orphans) s
       bye = record {
         mortal = n;
+        childless = λ j. rw (wake-calm (ownChannel s) (orphans .core) j .kin) (handed-over n j);
         user = same-system _ (wake-calm (ownChannel s) (orphans .core) s .kin) ∙ v;
         joiners = λ _. wake-empties (ownChannel s) (orphans .core) (sound .queued .tall);
         parent = λ f. absurd (clash (same-thread _ (wake-calm (ownChannel s) (orphans .core) s .kin) ∙ y) f);

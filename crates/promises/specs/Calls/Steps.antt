@@ -1,178 +1,100 @@
 -- Every call on a sound table: refused as document 01's table has it, a dispatch, or a chain of allowed moves.
-use Prim.Native.Nat.{ℕ, _+_, _≤_, _<_}
-use native.Mathlib.Omega.{arith}
+use Prim.Native.Nat.{ℕ, _<_}
 use mathlib.Core.Path.{_≡_, refl, ap, _∙_}
 use mathlib.Core.Logic.{_≢_, inl}
 use mathlib.Core.Bool.{Bool, true, false, cond, _||_}
-use mathlib.Core.List.{List, [], _∷_, _++_}
+use mathlib.Core.List.{List, [], _∷_}
 use mathlib.Core.Option.{Option, none, some}
-use lib.ListN.{length-append, length-replicate, length, getD, replicate, length-take, List·getD-eq-default}
-use lib.Seq.{getD-set-same}
-use lib.IntN.{pos, negsuc, ℤ}
+use lib.ListN.{length, getD, List·getD-eq-default}
+use lib.IntN.{ℤ}
 use lib.Dec.{eqb, leb}
-use borrow.Author.Tests.{eq-eqb, leb-true, leb-false, ltb-false, not-true, not-false}
-use Rattle.promises.specs.Types.{Pid, UNUSED, ALLOCATED, RUNNING, ZOMBIE, Parent, Nobody, Of, Member, In, Process, Kin, Start, Wish, ThreadAsk, Mapped, Refusal, NoSuchHart, HartIdle, HartBusy, QueueEmpty, TableFull, PidsSpent, NoGroup, BadAddress, Unmapped, NoneSuch, StatusUnwritable, InitOutOfTurn, WrongWayOut, NotADevice, NameTooLong, SizeOutOfLimits, NoMemory, Answer, Done, Made, Handed, Reaped, Joined, Blocked, Refused}
-use Rattle.rules.specs.Sizes.{sizeTop, trapframe, trampoline, pageSize, slotCount, hartCount, pidTop, nameSize, initSize, ownChannel, firstDevice}
+use borrow.Author.Tests.{leb-true, leb-false, ltb-false, not-true, not-false}
+use Rattle.promises.specs.Types.{Pid, RUNNING, ZOMBIE, Parent, Nobody, Of, Member, In, Process, Wish, ThreadAsk, Mapped, NoSuchHart, HartIdle, HartBusy, QueueEmpty, TableFull, PidsSpent, NoGroup, BadAddress, Unmapped, NoneSuch, StatusUnwritable, InitOutOfTurn, WrongWayOut, NotADevice, NameTooLong, SizeOutOfLimits, NoMemory, Done, Blocked}
+use Rattle.rules.specs.Sizes.{hartCount, initSize, ownChannel, firstDevice}
 use Rattle.rules.specs.Answers.{numberOf}
-use Rattle.rules.specs.Model.{Core, Table, at, hartAt, free, taken, is, isSlot, known, sameGroup, slot}
-use Rattle.rules.specs.Moves.{change, hand, lowest, openGroup, joinGroup, resize, setInit, spend, reap}
-use Rattle.rules.specs.Calls.{within, Outcome, gives, moves, refuse, spent, fill, publishNew, madeIn, padded, initName, initIn, bootedIn, booted, startedAt, started, systemIn, spawnedIn, spawned, systemReturnedBy, systemReturned, childIn, forkedIn, forkedBy, forked, leaderOf, threadIn, threadedIn, threadedBy, threaded, handNext, dispatched, yielded, slept, woken, hasPid, killed, zombieChildOf, waitedFor, waited, threadOf, threadNamed, joinedTo, joinedBy, joined, threadEnded, reapThreads, exitedPast, leaderExited, exitedBy, exited, threadExitedBy, threadExited, grownTo, grownBy, grown}
+use Rattle.rules.specs.Model.{Table, at, hartAt, free, is, isSlot, known, slot}
+use Rattle.rules.specs.Moves.{lowest, openGroup, joinGroup, resize, setInit, spend, reap}
+use Rattle.rules.specs.Calls.{moves, spent, publishNew, madeIn, initName, initIn, bootedIn, booted, startedAt, started, systemIn, spawnedIn, spawned, systemReturnedBy, systemReturned, childIn, forkedIn, forkedBy, forked, leaderOf, threadIn, threadedIn, threadedBy, threaded, handNext, dispatched, yielded, slept, woken, hasPid, killed, zombieChildOf, waitedFor, waited, threadOf, threadNamed, joinedTo, joinedBy, joined, threadEnded, reapThreads, exitedPast, leaderExited, exitedBy, exited, threadExitedBy, threadExited, grownTo, grownBy, grown}
 use Rattle.rules.specs.Runs.{Call, boot, start, spawn, systemReturn, fork, thread, dispatch, yield, sleep, wakeup, kill, wait, join, threadExit, exit, grow, step}
-use Rattle.promises.specs.Laws.Lists.{and-left, and-right, or-left, or-right, clash}
+use Rattle.promises.specs.Laws.Bools.{and-left, and-right, or-left, or-right, clash}
+use Rattle.promises.specs.Laws.Numbers.{init-size}
 use Rattle.promises.specs.Laws.Scans.{lowest-passes, lowest-none}
-use Rattle.promises.specs.Order.Sound.{isIn, names, Sound}
-use Rattle.promises.specs.Order.States.{other, runs-running, runs-used, runs-range}
-use Rattle.promises.specs.Order.Chains.{onCore, runs, device, waiting, joining, Vacant, ofInit, ofSystem, ofChild, ofThread, publishing, yielding, sleeping, spending, filling, freeing, returning, resizing, Chain, none, more, one, chained}
+use Rattle.promises.specs.Order.Sound.{Sound}
+use Rattle.promises.specs.Order.States.{other, runs-running, runs-range}
+use Rattle.promises.specs.Order.Chains.{onCore, runs, device, waiting, joining, ofInit, ofSystem, ofChild, ofThread, publishing, yielding, sleeping, spending, filling, freeing, returning, resizing, Chain, andThen, one, chained}
 use Rattle.promises.specs.Order.Books.{leave-pids, reap-pids}
 use Rattle.promises.specs.Order.Kept.{chain-sound}
 use Rattle.promises.specs.Calls.Shape.{refuseIf-any, found-any, onHart-any, inGroup-any, taking-any}
 use Rattle.promises.specs.Calls.Walks.{wake-chain, slay-chain, reapThreads-chain, Spared, reapThreads-spared, Settled, reapThreads-settled}
 use Rattle.promises.specs.Calls.Exits.{thread-used, blocked-chain, leader-chain, thread-chain}
-use Rattle.promises.specs.Calls.RefusalTable.{mayGive, among, forks, spendsPid}
-
--- ---- how a call ends
--- the pid counter moves by one with a pid that is answered, and else not at all
-abbrev pub Fair : Table → Answer → Table → Type 0
-Fair t (Made p) u = (p .0 ≡ t .books .pids + 1) × (u .books .pids ≡ t .books .pids + 1)
-Fair t (Handed s) u = ⊥
-Fair t (Refused r) u = ⊥
-Fair t Done u = u .books .pids ≡ t .books .pids
-Fair t (Reaped p x) u = u .books .pids ≡ t .books .pids
-Fair t (Joined x) u = u .books .pids ≡ t .books .pids
-Fair t Blocked u = u .books .pids ≡ t .books .pids
-
-pub data Ended (c : Call) (t : Table) : Outcome → Type 0 where
-  refused : (r : Refusal) → among (numberOf r) (mayGive c) ≡ true → spendsPid c (numberOf r) ≡ false → Ended c t (refuse r t)
-  spentOn : (r : Refusal) → among (numberOf r) (mayGive c) ≡ true → spendsPid c (numberOf r) ≡ true → t .books .pids < pidTop → Ended c t (refuse r (spent t))
-  handed : (h s : ℕ) (rest : List ℕ) → c ≡ dispatch h → t .core .queue ≡ s ∷ rest → h < hartCount → hartAt (t .core) h ≡ Nobody
-      → Ended c t (moves (Handed (slot s)) (hand h s rest (t .core)) t)
-  granted : (a : Answer) (u : Table) → Fair t a u → Chain t u → Ended c t (gives a u)
-
--- ---- slots just taken, and sizes
-within-top : (d : ℤ) (n : ℕ) → within d ≡ some n → n ≤ sizeTop
-unfolding within
-within-top (pos k) n e = go (leb k sizeTop) refl e
-  where
-    go : (b : Bool) → leb k sizeTop ≡ b → cond b (some k) none ≡ some n → n ≤ sizeTop
-    go true p q = let z : k ≡ n = cc in rw (← z) (leb-true k sizeTop p)
-    go false p q = let z : _≡_ {A = ℕ} 0 1 = cc in absurd (omega arith)
-within-top (negsuc k) n e = let z : _≡_ {A = ℕ} 0 1 = cc in absurd (omega arith)
-
-padded-long : (l : List ℕ) → length (padded l) ≡ nameSize
-unfolding padded
-padded-long l = omega (arith, length-take nameSize (l ++ replicate nameSize 0), length-append l (replicate nameSize 0), length-replicate {A = ℕ} nameSize 0)
-
-init-size : initSize ≤ sizeTop
-unfolding initSize sizeTop trapframe trampoline pageSize slotCount
-init-size = omega arith
-
-module _ (t : Table) (w : Sound t) where
-  vacant : (s : ℕ) → s < length (t .core .slots) → is UNUSED (at (t .core) s) ≡ true → Vacant (spent t) s
-  unfolding spent spend
-  vacant s r u = record { range = r; unused = u; positive = omega arith; new = λ j. omega (arith, w .numbered .high j) }
-
--- a slot filled is there, ALLOCATED
-filled : (s n : ℕ) (k : Kin) (b : Start) (c : Core) → s < length (c .slots) → is ALLOCATED (at (fill s (taken n k b) c) s) ≡ true
-unfolding fill change taken
-filled s n k b c r = ap (is ALLOCATED) (getD-set-same (c .slots) s _ free r)
-
--- ---- what is known of the caller
-module _ (t : Table) (w : Sound t) (h s : ℕ) (e : runs t h s) where
-  used : is UNUSED (at (t .core) s) ≡ false
-  used = runs-used h s (t .core) (w .queued) e
-
-  -- a slot with a group is no system thread
-  user : (g : ℕ) → at (t .core) s .kin .group ≡ In g → at (t .core) s .kin .system ≡ false
-  user g m = go (at (t .core) s .kin .system) refl
-    where
-      go : (b : Bool) → at (t .core) s .kin .system ≡ b → at (t .core) s .kin .system ≡ false
-      go true y = absurd (clash (ap isIn m) (ap isIn (w .tidy s .lone y .0)))
-      go false y = y
-
-  after : (g : ℕ) → at (t .core) s .kin .group ≡ In g → known (t .books .init) ≡ true
-  after g m = w .tidy s .after used (user g m)
-
-  names-own : (g : ℕ) → at (t .core) s .kin .group ≡ In g → names g (at (t .core) s) ≡ true
-  names-own g m = ap (sameGroup (In g)) m ∙ eq-eqb g g refl
-
-  -- whoever is to be the parent of the caller's threads is there
-  leader-known : (g : ℕ) → at (t .core) s .kin .group ≡ In g → known (leaderOf (at (t .core) s) s) ≡ true
-  unfolding leaderOf
-  leader-known g m = go (at (t .core) s .kin .thread) refl
-    where
-      not-init : at (t .core) s .kin .thread ≡ true → (b : Bool) → isSlot s (t .books .init) ≡ b → isSlot s (t .books .init) ≡ false
-      not-init y true i = absurd (clash y (w .tidy s .first i .leads))
-      not-init y false i = i
-
-      go : (b : Bool) → at (t .core) s .kin .thread ≡ b → known (cond b (at (t .core) s .kin .parent) (Of (slot s))) ≡ true
-      go true y = w .tidy s .child used (user g m) (not-init y (isSlot s (t .books .init)) refl)
-      go false y = refl
+use Rattle.promises.specs.Calls.RefusalTable.{forks, spendsPid}
+use Rattle.promises.specs.Calls.Ended.{Ended, refused, spentOn, handed, granted, within-top, padded-long, vacant, filled, used, after, names-own, leader-known, caller-elder, leader-elder}
 
 -- ---- boot, start, spawn, system return
 module _ (t : Table) (w : Sound t) where
   booted-ends : Ended boot t (booted t)
-  unfolding booted bootedIn madeIn initIn initName spent spend mayGive among spendsPid forks numberOf
+  unfolding booted bootedIn madeIn initIn initName spent spend spendsPid forks numberOf
   booted-ends =
-      refuseIf-any (Ended boot t) _ InitOutOfTurn t _ (refused InitOutOfTurn refl refl) λ e.
-      taking-any (Ended boot t) t _ (refused PidsSpent refl refl) (λ l. spentOn TableFull refl refl l) λ s l r u.
-      granted _ _ (refl, unfold setInit openGroup in refl) (more (one (spending l)) (filling s _ _ _ (vacant t w s r u) (ofInit e initSize init-size) (padded-long _)))
+      refuseIf-any (Ended boot t) _ InitOutOfTurn t _ (λ _. refused InitOutOfTurn refl) λ e.
+      taking-any (Ended boot t) t _ (λ _. refused PidsSpent refl) (λ l _. spentOn TableFull refl l) λ s l o.
+      granted _ _ (refl, unfold setInit openGroup in refl) (andThen (one (spending l)) (filling s _ _ _ (vacant t w s o) (ofInit e initSize init-size) (padded-long _)))
 
   started-ends : Ended start t (started t)
-  unfolding started startedAt moves onCore mayGive among spendsPid forks numberOf
+  unfolding started startedAt moves onCore spendsPid forks numberOf
   started-ends = go (t .books .init)
     where
       go : (p : Parent) → Ended start t (startedAt t p)
-      go Nobody = refused InitOutOfTurn refl refl
-      go (Of s) = refuseIf-any (Ended start t) _ InitOutOfTurn t _ (refused InitOutOfTurn refl refl) λ e.
+      go Nobody = refused InitOutOfTurn refl
+      go (Of s) = refuseIf-any (Ended start t) _ InitOutOfTurn t _ (λ _. refused InitOutOfTurn refl) λ e.
           granted Done _ refl (one (publishing (s .0) (inl (not-false _ e))))
 
   spawned-ends : (name : List ℕ) (entry : ℕ) → Ended (spawn name entry) t (spawned t name entry)
-  unfolding spawned spawnedIn madeIn systemIn publishNew onCore spent spend mayGive among spendsPid forks numberOf
+  unfolding spawned spawnedIn madeIn systemIn publishNew onCore spent spend spendsPid forks numberOf
   spawned-ends name entry =
-      refuseIf-any (Ended (spawn name entry) t) _ NameTooLong t _ (refused NameTooLong refl refl) λ _.
-      taking-any (Ended (spawn name entry) t) t _ (refused PidsSpent refl refl) (λ l. spentOn TableFull refl refl l) λ s l r u.
+      refuseIf-any (Ended (spawn name entry) t) _ NameTooLong t _ (λ _. refused NameTooLong refl) λ _.
+      taking-any (Ended (spawn name entry) t) t _ (λ _. refused PidsSpent refl) (λ l _. spentOn TableFull refl l) λ s l o.
       granted _ _ (refl, refl)
-      (more (more (one (spending l)) (filling s _ _ _ (vacant t w s r u) ofSystem (padded-long name))) (publishing s (inl (filled s _ _ _ (t .core) r))))
+      (andThen (andThen (one (spending l)) (filling s _ _ _ (vacant t w s o) ofSystem (padded-long name))) (publishing s (inl (filled s _ _ _ (t .core) (vacant t w s o .range)))))
 
   systemReturned-ends : (h : ℕ) → Ended (systemReturn h) t (systemReturned t h)
-  unfolding systemReturned systemReturnedBy onCore reap mayGive among spendsPid forks numberOf
+  unfolding systemReturned systemReturnedBy onCore reap spendsPid forks numberOf
   systemReturned-ends h =
-      onHart-any (Ended (systemReturn h) t) t h _ (refused NoSuchHart refl refl) (refused HartIdle refl refl) λ s e.
-      refuseIf-any (Ended (systemReturn h) t) _ WrongWayOut t _ (refused WrongWayOut refl refl) λ y.
+      onHart-any (Ended (systemReturn h) t) t h _ (λ _. refused NoSuchHart refl) (λ _ _. refused HartIdle refl) λ s _ e.
+      refuseIf-any (Ended (systemReturn h) t) _ WrongWayOut t _ (λ _. refused WrongWayOut refl) λ y.
       granted Done _ (leave-pids _ _) (one (returning h s e (not-false _ y)))
 
   -- ---- fork, thread creation
   forked-ends : (h : ℕ) (memory : Bool) → Ended (fork h memory) t (forked t h memory)
-  unfolding forked forkedBy forkedIn madeIn childIn publishNew onCore spent spend mayGive among spendsPid forks numberOf
+  unfolding forked forkedBy forkedIn madeIn childIn publishNew onCore spent spend spendsPid forks numberOf
   forked-ends h memory =
-      onHart-any (Ended (fork h memory) t) t h _ (refused NoSuchHart refl refl) (refused HartIdle refl refl) λ s e.
-      inGroup-any (Ended (fork h memory) t) t s _ (refused NoGroup refl refl) λ g m.
-      taking-any (Ended (fork h memory) t) t _ (refused PidsSpent refl refl) (λ l. spentOn TableFull refl refl l) λ c l r u.
-      refuseIf-any (Ended (fork h memory) t) _ NoMemory (spent t) _ (spentOn NoMemory refl refl l) λ _.
+      onHart-any (Ended (fork h memory) t) t h _ (λ _. refused NoSuchHart refl) (λ _ _. refused HartIdle refl) λ s _ e.
+      inGroup-any (Ended (fork h memory) t) t s _ (λ _. refused NoGroup refl) λ g m.
+      taking-any (Ended (fork h memory) t) t _ (λ _. refused PidsSpent refl) (λ l _. spentOn TableFull refl l) λ c l o.
+      refuseIf-any (Ended (fork h memory) t) _ NoMemory (spent t) _ (λ _. spentOn NoMemory refl l) λ _.
       granted _ _ (refl, unfold openGroup in refl)
-      (more (more (one (spending l)) (filling c _ _ _ (vacant t w c r u) (ofChild (after t w h s e g m) s _ (w .counted .top g)) (w .tidy s .name)))
-      (publishing c (inl (filled c _ _ _ (t .core) r))))
+      (andThen (andThen (one (spending l)) (filling c _ _ _ (vacant t w c o) (ofChild (after t w h s e g m) s (caller-elder t w h s e g m) _ (w .counted .top g)) (w .tidy s .name)))
+      (publishing c (inl (filled c _ _ _ (t .core) (vacant t w c o .range)))))
 
   threaded-ends : (h : ℕ) (a : ThreadAsk) (p : Mapped) → Ended (thread h a p) t (threaded t h a p)
-  unfolding threaded threadedBy threadedIn madeIn threadIn publishNew onCore spent spend mayGive among spendsPid forks numberOf
+  unfolding threaded threadedBy threadedIn madeIn threadIn publishNew onCore spent spend spendsPid forks numberOf
   threaded-ends h a p =
-      onHart-any (Ended (thread h a p) t) t h _ (refused NoSuchHart refl refl) (refused HartIdle refl refl) λ s e.
-      inGroup-any (Ended (thread h a p) t) t s _ (refused NoGroup refl refl) λ g m.
-      refuseIf-any (Ended (thread h a p) t) _ BadAddress t _ (refused BadAddress refl refl) λ _.
-      refuseIf-any (Ended (thread h a p) t) _ Unmapped t _ (refused Unmapped refl refl) λ _.
-      taking-any (Ended (thread h a p) t) t _ (refused PidsSpent refl refl) (λ l. spentOn TableFull refl refl l) λ c l r u.
+      onHart-any (Ended (thread h a p) t) t h _ (λ _. refused NoSuchHart refl) (λ _ _. refused HartIdle refl) λ s _ e.
+      inGroup-any (Ended (thread h a p) t) t s _ (λ _. refused NoGroup refl) λ g m.
+      refuseIf-any (Ended (thread h a p) t) _ BadAddress t _ (λ _. refused BadAddress refl) λ _.
+      refuseIf-any (Ended (thread h a p) t) _ Unmapped t _ (λ _. refused Unmapped refl) λ _.
+      taking-any (Ended (thread h a p) t) t _ (λ _. refused PidsSpent refl) (λ l _. spentOn TableFull refl l) λ c l o.
       granted _ _ (refl, unfold joinGroup in refl)
-      (more (more (one (spending l)) (filling c _ _ _ (vacant t w c r u)
-      (ofThread (after t w h s e g m) g (leaderOf (at (t .core) s) s) (leader-known t w h s e g m) s (runs-range h s (t .core) (w .queued) e) (names-own t w h s e g m))
+      (andThen (andThen (one (spending l)) (filling c _ _ _ (vacant t w c o)
+      (ofThread (after t w h s e g m) g (leaderOf (at (t .core) s) s) (leader-known t w h s e g m) (leader-elder t w h s e g m) s (runs-range h s (t .core) (w .queued) e) (names-own t w h s e g m))
       (w .tidy s .name)))
-      (publishing c (inl (filled c _ _ _ (t .core) r))))
+      (publishing c (inl (filled c _ _ _ (t .core) (vacant t w c o .range)))))
 
   -- ---- dispatch, yield, sleep, wake, kill
   dispatched-ends : (h : ℕ) → Ended (dispatch h) t (dispatched t h)
-  unfolding dispatched handNext mayGive among spendsPid forks numberOf
+  unfolding dispatched handNext spendsPid forks numberOf
   dispatched-ends h =
-      refuseIf-any (Ended (dispatch h) t) _ NoSuchHart t _ (refused NoSuchHart refl refl) λ a.
-      refuseIf-any (Ended (dispatch h) t) _ HartBusy t _ (refused HartBusy refl refl) λ b.
+      refuseIf-any (Ended (dispatch h) t) _ NoSuchHart t _ (λ _. refused NoSuchHart refl) λ a.
+      refuseIf-any (Ended (dispatch h) t) _ HartBusy t _ (λ _. refused HartBusy refl) λ b.
       go (t .core .queue) refl (leb-false hartCount h a) (idle-hart (hartAt (t .core) h) b)
     where
       idle-hart : (p : Parent) → known p ≡ false → p ≡ Nobody
@@ -180,32 +102,32 @@ module _ (t : Table) (w : Sound t) where
       idle-hart (Of s) e = absurd (clash {b = true} refl e)
 
       go : (q : List ℕ) → t .core .queue ≡ q → h < hartCount → hartAt (t .core) h ≡ Nobody → Ended (dispatch h) t (handNext t h q)
-      go [] e r i = refused QueueEmpty refl refl
+      go [] e r i = refused QueueEmpty refl
       go (s ∷ rest) e r i = handed h s rest refl e r i
 
   yielded-ends : (h : ℕ) → Ended (yield h) t (yielded t h)
-  unfolding yielded moves onCore mayGive among spendsPid forks numberOf
+  unfolding yielded moves onCore spendsPid forks numberOf
   yielded-ends h =
-      onHart-any (Ended (yield h) t) t h _ (refused NoSuchHart refl refl) (refused HartIdle refl refl) λ s e.
+      onHart-any (Ended (yield h) t) t h _ (λ _. refused NoSuchHart refl) (λ _ _. refused HartIdle refl) λ s _ e.
       granted Done _ refl (one (yielding h s e))
 
   slept-ends : (h ch : ℕ) → Ended (sleep h ch) t (slept t h ch)
-  unfolding slept moves onCore mayGive among spendsPid forks numberOf
+  unfolding slept moves onCore spendsPid forks numberOf
   slept-ends h ch =
-      onHart-any (Ended (sleep h ch) t) t h _ (refused NoSuchHart refl refl) (refused HartIdle refl refl) λ s e.
-      refuseIf-any (Ended (sleep h ch) t) _ NotADevice t _ (refused NotADevice refl refl) λ d.
+      onHart-any (Ended (sleep h ch) t) t h _ (λ _. refused NoSuchHart refl) (λ _ _. refused HartIdle refl) λ s _ e.
+      refuseIf-any (Ended (sleep h ch) t) _ NotADevice t _ (λ _. refused NotADevice refl) λ d.
       granted Done _ refl (one (sleeping h s ch e (device ch (ltb-false ch firstDevice d))))
 
   woken-ends : (ch : ℕ) → Ended (wakeup ch) t (woken t ch)
-  unfolding woken moves onCore mayGive among spendsPid forks numberOf
+  unfolding woken moves onCore spendsPid forks numberOf
   woken-ends ch =
-      refuseIf-any (Ended (wakeup ch) t) _ NotADevice t _ (refused NotADevice refl refl) λ _.
+      refuseIf-any (Ended (wakeup ch) t) _ NotADevice t _ (λ _. refused NotADevice refl) λ _.
       granted Done _ refl (wake-chain t ch w)
 
   killed-ends : (p : Pid) → Ended (kill p) t (killed t p)
-  unfolding killed hasPid moves onCore mayGive among spendsPid forks numberOf
+  unfolding killed hasPid moves onCore spendsPid forks numberOf
   killed-ends p =
-      found-any (Ended (kill p) t) NoneSuch t _ _ (refused NoneSuch refl refl) λ i o.
+      found-any (Ended (kill p) t) NoneSuch t _ _ (λ _. refused NoneSuch refl) λ i o.
       granted Done _ refl (slay-chain t i (not-true _ (and-left _ _ (lowest-passes (hasPid p) (t .core .slots) free i o))))
 
   -- ---- wait, join
@@ -222,29 +144,29 @@ module _ (t : Table) (w : Sound t) where
   free-no-zombie s = refl
 
   waited-ends : (h : ℕ) (x : Wish) → Ended (wait h x) t (waited t h x)
-  unfolding waited waitedFor zombieChildOf moves onCore mayGive among spendsPid forks numberOf
+  unfolding waited waitedFor zombieChildOf moves onCore spendsPid forks numberOf
   waited-ends h x =
-      onHart-any (Ended (wait h x) t) t h _ (refused NoSuchHart refl refl) (refused HartIdle refl refl) λ s e.
+      onHart-any (Ended (wait h x) t) t h _ (λ _. refused NoSuchHart refl) (λ _ _. refused HartIdle refl) λ s _ e.
       go s e (lowest (zombieChildOf s) (t .core .slots)) refl
     where
       go : (s : ℕ) → runs t h s → (o : Option ℕ) → lowest (zombieChildOf s) (t .core .slots) ≡ o → Ended (wait h x) t (waitedFor t h x s o)
-      go s e (some i) o = refuseIf-any (Ended (wait h x) t) _ StatusUnwritable t _ (refused StatusUnwritable refl refl) λ _.
+      go s e (some i) o = refuseIf-any (Ended (wait h x) t) _ StatusUnwritable t _ (λ _. refused StatusUnwritable refl) λ _.
           granted _ _ (reap-pids i t) (one (freeing i (and-left _ _ (lowest-passes (zombieChildOf s) (t .core .slots) free i o))))
-      go s e none o = refuseIf-any (Ended (wait h x) t) _ NoneSuch t _ (refused NoneSuch refl refl) λ _.
+      go s e none o = refuseIf-any (Ended (wait h x) t) _ NoneSuch t _ (λ _. refused NoneSuch refl) λ _.
           granted Blocked _ refl (one (sleeping h s (ownChannel s) e (waiting (nowhere (zombieChildOf s) (free-no-zombie s) o))))
 
   joined-ends : (h : ℕ) (p : Pid) (x : Wish) → Ended (join h p x) t (joined t h p x)
-  unfolding joined joinedBy joinedTo threadNamed threadOf moves onCore mayGive among spendsPid forks numberOf
+  unfolding joined joinedBy joinedTo threadNamed threadOf moves onCore spendsPid forks numberOf
   joined-ends h p x =
-      onHart-any (Ended (join h p x) t) t h _ (refused NoSuchHart refl refl) (refused HartIdle refl refl) λ s e.
-      inGroup-any (Ended (join h p x) t) t s _ (refused NoGroup refl refl) λ g m.
-      refuseIf-any (Ended (join h p x) t) _ NoneSuch t _ (refused NoneSuch refl refl) λ own.
-      found-any (Ended (join h p x) t) NoneSuch t _ _ (refused NoneSuch refl refl) λ i o.
+      onHart-any (Ended (join h p x) t) t h _ (λ _. refused NoSuchHart refl) (λ _ _. refused HartIdle refl) λ s _ e.
+      inGroup-any (Ended (join h p x) t) t s _ (λ _. refused NoGroup refl) λ g m.
+      refuseIf-any (Ended (join h p x) t) _ NoneSuch t _ (λ _. refused NoneSuch refl) λ own.
+      found-any (Ended (join h p x) t) NoneSuch t _ _ (λ _. refused NoneSuch refl) λ i o.
       go s e g m own i (lowest-passes (threadNamed p (In g)) (t .core .slots) free i o) (is ZOMBIE (at (t .core) i)) refl
     where
       go : (s : ℕ) → runs t h s → (g : ℕ) → at (t .core) s .kin .group ≡ In g → eqb (at (t .core) s .meta .pid .0) (p .0) ≡ false
           → (i : ℕ) → threadNamed p (In g) (at (t .core) i) ≡ true → (b : Bool) → is ZOMBIE (at (t .core) i) ≡ b → Ended (join h p x) t (joinedTo t h x s i)
-      go s e g m own i n true z = rw z (refuseIf-any (Ended (join h p x) t) _ StatusUnwritable t _ (refused StatusUnwritable refl refl) λ _.
+      go s e g m own i n true z = rw z (refuseIf-any (Ended (join h p x) t) _ StatusUnwritable t _ (λ _. refused StatusUnwritable refl) λ _.
           granted _ _ (reap-pids i t) (one (freeing i z)))
       go s e g m own i n false z = rw z (granted Blocked _ refl (one (sleeping h s (ownChannel i) e (joining i apart (record {
         used = thread-used t w i (and-left _ _ (and-left _ _ n));
@@ -286,17 +208,17 @@ module _ (t : Table) (w : Sound t) where
       go none o = granted Done _ (spared .pids) (chained reaping (leader-chain u sound h s there x (rw (spared .slot) y) (rw (spared .slot) v) (rw (spared .init) n)))
 
   exited-ends : (h x : ℕ) → Ended (exit h x) t (exited t h x)
-  unfolding exited exitedBy mayGive among spendsPid forks numberOf
+  unfolding exited exitedBy spendsPid forks numberOf
   exited-ends h x =
-      onHart-any (Ended (exit h x) t) t h _ (refused NoSuchHart refl refl) (refused HartIdle refl refl) λ s e.
-      refuseIf-any (Ended (exit h x) t) _ WrongWayOut t _ (refused WrongWayOut refl refl) λ f.
+      onHart-any (Ended (exit h x) t) t h _ (λ _. refused NoSuchHart refl) (λ _ _. refused HartIdle refl) λ s _ e.
+      refuseIf-any (Ended (exit h x) t) _ WrongWayOut t _ (λ _. refused WrongWayOut refl) λ f.
       leaderExited-ends (exit h x) h x s e (or-right (isSlot s (t .books .init) || at (t .core) s .kin .system) _ f) (or-right (isSlot s (t .books .init)) _ (or-left _ _ f)) (or-left _ _ (or-left _ _ f))
 
   threadExited-ends : (h x : ℕ) → Ended (threadExit h x) t (threadExited t h x)
-  unfolding threadExited threadExitedBy threadEnded moves onCore mayGive among spendsPid forks numberOf
+  unfolding threadExited threadExitedBy threadEnded moves onCore spendsPid forks numberOf
   threadExited-ends h x =
-      onHart-any (Ended (threadExit h x) t) t h _ (refused NoSuchHart refl refl) (refused HartIdle refl refl) λ s e.
-      refuseIf-any (Ended (threadExit h x) t) _ WrongWayOut t _ (refused WrongWayOut refl refl) λ f.
+      onHart-any (Ended (threadExit h x) t) t h _ (λ _. refused NoSuchHart refl) (λ _ _. refused HartIdle refl) λ s _ e.
+      refuseIf-any (Ended (threadExit h x) t) _ WrongWayOut t _ (λ _. refused WrongWayOut refl) λ f.
       go s e (or-right (isSlot s (t .books .init)) _ f) (or-left _ _ f) (at (t .core) s .kin .thread) refl
     where
       go : (s : ℕ) → runs t h s → at (t .core) s .kin .system ≡ false → isSlot s (t .books .init) ≡ false → (b : Bool) → at (t .core) s .kin .thread ≡ b
@@ -306,12 +228,12 @@ module _ (t : Table) (w : Sound t) where
 
   -- ---- grow
   grown-ends : (h : ℕ) (d : ℤ) (memory : Bool) → Ended (grow h d memory) t (grown t h d memory)
-  unfolding grown grownBy grownTo resize mayGive among spendsPid forks numberOf
+  unfolding grown grownBy grownTo resize spendsPid forks numberOf
   grown-ends h d memory =
-      onHart-any (Ended (grow h d memory) t) t h _ (refused NoSuchHart refl refl) (refused HartIdle refl refl) λ s e.
-      inGroup-any (Ended (grow h d memory) t) t s _ (refused NoGroup refl refl) λ g m.
-      found-any (Ended (grow h d memory) t) SizeOutOfLimits t _ _ (refused SizeOutOfLimits refl refl) λ n o.
-      refuseIf-any (Ended (grow h d memory) t) _ NoMemory t _ (refused NoMemory refl refl) λ _.
+      onHart-any (Ended (grow h d memory) t) t h _ (λ _. refused NoSuchHart refl) (λ _ _. refused HartIdle refl) λ s _ e.
+      inGroup-any (Ended (grow h d memory) t) t s _ (λ _. refused NoGroup refl) λ g m.
+      found-any (Ended (grow h d memory) t) SizeOutOfLimits t _ _ (λ _. refused SizeOutOfLimits refl) λ n o.
+      refuseIf-any (Ended (grow h d memory) t) _ NoMemory t _ (λ _. refused NoMemory refl) λ _.
       granted Done _ refl (one (resizing g n s (within-top _ n o) (runs-range h s (t .core) (w .queued) e) (names-own t w h s e g m)))
 
   pub step-ends : (c : Call) → Ended c t (step t c)

@@ -5,26 +5,30 @@ use mathlib.Core.Path.{_≡_, refl, ap, _∙_}
 use mathlib.Core.Logic.{_⊎_, inl, inr}
 use mathlib.Core.Bool.{Bool, true, false, cond}
 use mathlib.Core.Option.{Option, none, some}
-use lib.ListN.{length}
-use lib.Seq.{getD-set-other}
-use Rattle.promises.specs.Types.{UNUSED, SLEEPING, ZOMBIE, Parent, Nobody, Of, Member, Kin}
+use lib.ListN.{length, List·getD-eq-default}
+use lib.Seq.{getD-set-same, getD-set-other}
+use lib.Dec.{leb}
+use borrow.Author.Tests.{leb-true, leb-false}
+use Rattle.promises.specs.Types.{UNUSED, SLEEPING, ZOMBIE, Parent, Nobody, Of, Member, Kin, Process}
 use Rattle.rules.specs.Sizes.{slotCount}
 use Rattle.rules.specs.Model.{Core, Table, at, free, is, isSlot, known, onMeta, asKilled, withParent}
 use Rattle.rules.specs.Moves.{change, publish, sweep, lowest, publishIf, sleepsOn, wakeOne, wake, wakeOf, slay, handOver, reparent, reap}
 use Rattle.rules.specs.Calls.{threadOf, reapIfZombie, reapFirst, reapThreads}
-use Rattle.promises.specs.Laws.Lists.{and-left, clash, rel-set, ind, tally, tally-set, tally-le, tally-one}
+use Rattle.promises.specs.Laws.Bools.{and-left, clash}
+use Rattle.promises.specs.Laws.Lists.{set-cases, rel-set}
+use Rattle.promises.specs.Laws.Counts.{ind, tally, tally-set, tally-le, tally-one}
 use Rattle.promises.specs.Order.Books.{leave-init, leave-pids}
-use Rattle.promises.specs.Laws.Scans.{wakeOf-any, lowest-passes, lowest-range, sweep-keeps}
+use Rattle.promises.specs.Order.Wakes.{wakeOf-any, Calm, calm-then, calm-set, publish-calm, wakeOf-calm}
+use Rattle.promises.specs.Laws.Scans.{lowest-passes, lowest-range, sweep-keeps, sweep-each}
 use Rattle.promises.specs.Order.Sound.{Sound}
-use Rattle.promises.specs.Order.Wakes.{Calm, calm-same, calm-then, calm-set, publish-calm, wake-calm}
-use Rattle.promises.specs.Order.Chains.{onCore, publishing, marking, adopting, freeing, Chain, none, one, chained}
+use Rattle.promises.specs.Order.Chains.{onCore, publishing, marking, adopting, freeing, Chain, still, one, chained}
 use Rattle.promises.specs.Order.Kept.{chain-steps}
 
 -- ---- wake
 publishIf-chain : (t : Table) (s : ℕ) (b : Bool) → (b ≡ true → is SLEEPING (at (t .core) s) ≡ true) → Chain t (onCore (publishIf b s) t)
 unfolding publishIf onCore
 publishIf-chain t s true k = one (publishing s (inr (k refl)))
-publishIf-chain t s false k = none
+publishIf-chain t s false k = still
 
 pub wake-chain : (t : Table) (ch : ℕ) → Sound t → Chain t (onCore (wake ch) t)
 unfolding wake wakeOne onCore sweep
@@ -33,7 +37,7 @@ wake-chain t ch w = chain-steps (λ n. onCore (sweep (wakeOne ch) n) t) w
 
 pub wakeOf-chain : (t : Table) (p : Parent) → Sound t → Chain t (onCore (wakeOf p) t)
 unfolding onCore
-wakeOf-chain t p w = wakeOf-any (λ (d : Core). Chain t (record { core = d; books = t .books })) (t .core) none (λ ch. wake-chain t ch w) p
+wakeOf-chain t p w = wakeOf-any (λ (d : Core). Chain t (record { core = d; books = t .books })) (t .core) still (λ ch. wake-chain t ch w) p
 
 pub wake-harts : (ch : ℕ) (c : Core) → wake ch c .harts ≡ c .harts
 unfolding wake wakeOne publishIf publish change
@@ -45,9 +49,6 @@ wake-harts ch c = sweep-keeps (λ (d : Core). d .harts ≡ c .harts) (wakeOne ch
 
 pub wakeOf-harts : (p : Parent) (c : Core) → wakeOf p c .harts ≡ c .harts
 wakeOf-harts p c = wakeOf-any (λ (d : Core). d .harts ≡ c .harts) c refl (λ ch. wake-harts ch c) p
-
-pub wakeOf-calm : (p : Parent) (c : Core) (j : ℕ) → Calm (at c j) (at (wakeOf p c) j)
-wakeOf-calm p c j = wakeOf-any (λ (d : Core). Calm (at c j) (at d j)) c (calm-same (at c j)) (λ ch. wake-calm ch c j) p
 
 -- ---- kill
 -- the mark moves no state
@@ -90,7 +91,7 @@ handOver-chain t s i = go (isSlot s (at (t .core) i .kin .parent)) refl
     go : (b : Bool) → isSlot s (at (t .core) i .kin .parent) ≡ b
         → Chain t (record { core = cond b (wakeOf (t .books .init) (change (withParent (t .books .init)) i (t .core))) (t .core); books = t .books })
     go true e = one (adopting i (is-known s (at (t .core) i .kin .parent) e))
-    go false e = none
+    go false e = still
 
 pub reparent-chain : (t : Table) (s : ℕ) → Sound t → Chain t (onCore (reparent (t .books .init) s) t)
 unfolding reparent sweep onCore
@@ -120,15 +121,53 @@ reparent-steady init s c = sweep-keeps (Steady c) (handOver init s) (λ i d w. g
     go i d w true = adopt i d w
     go i d w false = w
 
+-- nobody has s as parent any more
+reparent-past : (s : ℕ) (c : Core) (j : ℕ) → length (c .slots) ≤ j → isSlot s (at c j .kin .parent) ≡ false
+unfolding free
+reparent-past s c j r = ap (λ (p : Process). isSlot s (p .kin .parent)) (List·getD-eq-default (c .slots) free r)
+
+module _ (init : Parent) (s : ℕ) (n : isSlot s init ≡ false) where
+  handOver-keeps : (i j : ℕ) (d : Core) → isSlot s (at d j .kin .parent) ≡ false → isSlot s (at (handOver init s i d) j .kin .parent) ≡ false
+  unfolding handOver change
+  handOver-keeps i j d e = go (isSlot s (at d i .kin .parent))
+    where
+      pick : ((j ≡ i) × (at (change (withParent init) i d) j ≡ withParent init (at d i))) ⊎ (at (change (withParent init) i d) j ≡ at d j) → isSlot s (at (change (withParent init) i d) j .kin .parent) ≡ false
+      pick (inl f) = rw (f .1) n
+      pick (inr f) = rw f e
+
+      go : (b : Bool) → isSlot s (at (cond b (wakeOf init (change (withParent init) i d)) d) j .kin .parent) ≡ false
+      go true = rw (wakeOf-calm init (change (withParent init) i d) j .kin) (pick (set-cases (d .slots) i (withParent init (at d i)) free j))
+      go false = e
+
+  handOver-clears : (i : ℕ) (d : Core) → isSlot s (at (handOver init s i d) i .kin .parent) ≡ false
+  unfolding handOver change
+  handOver-clears i d = go (isSlot s (at d i .kin .parent)) refl
+    where
+      go : (b : Bool) → isSlot s (at d i .kin .parent) ≡ b → isSlot s (at (cond b (wakeOf init (change (withParent init) i d)) d) i .kin .parent) ≡ false
+      go false e = e
+      go true e = rw (wakeOf-calm init (change (withParent init) i d) i .kin) (there (leb (length (d .slots)) i) refl)
+        where
+          there : (b : Bool) → leb (length (d .slots)) i ≡ b → isSlot s (at (change (withParent init) i d) i .kin .parent) ≡ false
+          there true r = absurd (clash e (reparent-past s d i (leb-true _ i r)))
+          there false r = rw (getD-set-same (d .slots) i (withParent init (at d i)) free (leb-false _ i r)) n
+
+  pub reparent-clears : (c : Core) → length (c .slots) ≡ slotCount → (j : ℕ) → isSlot s (at (reparent init s c) j .kin .parent) ≡ false
+  unfolding reparent
+  reparent-clears c tall j = go (leb slotCount j) refl
+    where
+      go : (b : Bool) → leb slotCount j ≡ b → isSlot s (at (sweep (handOver init s) slotCount c) j .kin .parent) ≡ false
+      go true r = sweep-keeps (λ (d : Core). isSlot s (at d j .kin .parent) ≡ false) (handOver init s) (λ i d. handOver-keeps i j d) slotCount c (reparent-past s c j (omega (arith, tall, leb-true slotCount j r)))
+      go false r = sweep-each (λ i (d : Core). isSlot s (at d i .kin .parent) ≡ false) (handOver init s) handOver-clears handOver-keeps slotCount c j (leb-false slotCount j r)
+
 -- ---- exit's loop over the ZOMBIE threads of a group
 reapIfZombie-chain : (t : Table) (o : Option ℕ) → Chain t (reapIfZombie t o)
 unfolding reapIfZombie
-reapIfZombie-chain t none = none
+reapIfZombie-chain t none = still
 reapIfZombie-chain t (some i) = go (is ZOMBIE (at (t .core) i)) refl
   where
     go : (b : Bool) → is ZOMBIE (at (t .core) i) ≡ b → Chain t (cond b (reap i t) t)
     go true e = one (freeing i e)
-    go false e = none
+    go false e = still
 
 pub reapThreads-chain : (m : Member) (t : Table) → Sound t → Chain t (reapThreads m t)
 unfolding reapThreads reapFirst sweep

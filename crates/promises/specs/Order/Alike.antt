@@ -9,8 +9,10 @@ use Rattle.rules.specs.Sizes.{slotCount, pidTop, sizeTop}
 use Rattle.rules.specs.Model.{Core, Books, Table, at, free, taken, is, onMeta, asRunning, asSleeping, asZombie, asKilled, withParent}
 use Rattle.rules.specs.Moves.{change, publish, hand, idle, yieldOn, sleepOn, zombieOn, publishIf, sleepsOn, wakeOne, wake, wakeOf, resize, reap}
 use Rattle.rules.specs.Calls.{fill, spent}
-use Rattle.promises.specs.Laws.Lists.{and-left, rel-set}
-use Rattle.promises.specs.Laws.Scans.{wakeOf-any, sweep-keeps}
+use Rattle.promises.specs.Laws.Bools.{and-left}
+use Rattle.promises.specs.Laws.Lists.{rel-set}
+use Rattle.promises.specs.Order.Wakes.{wakeOf-any}
+use Rattle.promises.specs.Laws.Scans.{sweep-keeps}
 use Rattle.promises.specs.Order.Sound.{names, Queued}
 use Rattle.promises.specs.Order.States.{other, quiet, runs-used}
 use Rattle.promises.specs.Order.Chains.{onCore, Vacant, Birth, Move, publishing, yielding, sleeping, dying, marking, adopting, spending, filling, freeing, returning, resizing}

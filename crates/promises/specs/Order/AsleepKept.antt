@@ -14,7 +14,8 @@ use Rattle.rules.specs.Sizes.{slotCount, ownChannel, firstDevice}
 use Rattle.rules.specs.Model.{Core, Table, at, free, taken, is, isSlot, stateCode, onMeta, asRunnable, asRunning, asSleeping, asZombie, asKilled, withParent}
 use Rattle.rules.specs.Moves.{change, publish, hand, idle, yieldOn, sleepOn, zombieOn, sleepsOn, wake, wakeOf, reap}
 use Rattle.rules.specs.Calls.{childOf, zombieChildOf, threadOf, fill, spent}
-use Rattle.promises.specs.Laws.Lists.{and-left, and-right, and-both, clash, rel-set}
+use Rattle.promises.specs.Laws.Bools.{and-left, and-right, and-both, clash}
+use Rattle.promises.specs.Laws.Lists.{rel-set}
 use Rattle.promises.specs.Order.Sound.{Queued, Tidy, Lives, Asleep}
 use Rattle.promises.specs.Order.States.{other, used-range, quiet, runs-running, runs-range}
 use Rattle.promises.specs.Order.Wakes.{Calm, calm-awake, calm-set, wake-calm, wake-empties}

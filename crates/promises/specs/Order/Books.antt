@@ -24,5 +24,5 @@ pub birth-pids : {t : Table} {s : ℕ} {k : Kin} {d : Books} → Birth t s k d �
 unfolding setInit openGroup joinGroup
 birth-pids (ofInit _ _ _) = refl
 birth-pids ofSystem = refl
-birth-pids (ofChild _ _ _ _) = refl
-birth-pids (ofThread _ _ _ _ _ _ _) = refl
+birth-pids (ofChild _ _ _ _ _) = refl
+birth-pids (ofThread _ _ _ _ _ _ _ _) = refl

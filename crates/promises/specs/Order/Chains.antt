@@ -9,7 +9,7 @@ use Rattle.rules.specs.Sizes.{pidTop, nameSize, sizeTop, ownChannel, firstDevic
 use Rattle.rules.specs.Model.{Core, Books, Table, at, hartAt, is, isSlot, known, slot, taken, onMeta, asKilled, withParent}
 use Rattle.rules.specs.Moves.{change, publish, idle, yieldOn, sleepOn, zombieOn, sleepsOn, wakeOf, newGroup, openGroup, joinGroup, resize, setInit, reap}
 use Rattle.rules.specs.Calls.{zombieChildOf, fill, spent}
-use Rattle.promises.specs.Order.Sound.{names, Lives}
+use Rattle.promises.specs.Order.Sound.{Elder, names, Lives}
 
 -- the scheduler's part moves, the books stay
 unfoldable pub onCore : (Core → Core) → Table → Table
@@ -24,10 +24,11 @@ pub data Bed (t : Table) (s : ℕ) : ℕ → Type 0 where
   waiting : ((j : ℕ) → zombieChildOf s (at (t .core) j) ≡ false) → Bed t s (ownChannel s)
   joining : (i : ℕ) → s ≢ i → Lives (at (t .core) s) (at (t .core) i) → Bed t s (ownChannel i)
 
--- when a caller s may become ZOMBIE: whoever should know is awake
+-- when a caller s may become ZOMBIE: its children are handed over, and whoever should know is awake
 pub record Farewell (t : Table) (s : ℕ) : Type 0 where
   pub mortal : isSlot s (t .books .init) ≡ false
   pub user : at (t .core) s .kin .system ≡ false
+  pub childless : (j : ℕ) → isSlot s (at (t .core) j .kin .parent) ≡ false
   pub joiners : at (t .core) s .kin .thread ≡ true → (j : ℕ) → sleepsOn (ownChannel s) (at (t .core) j) ≡ false
   pub parent : at (t .core) s .kin .thread ≡ false → (q : ℕ) → isSlot q (at (t .core) s .kin .parent) ≡ true → sleepsOn (ownChannel q) (at (t .core) q) ≡ false
 
@@ -43,9 +44,9 @@ pub data Birth (t : Table) (s : ℕ) : Kin → Books → Type 0 where
   ofInit : known (t .books .init) ≡ false → (size : ℕ) → size ≤ sizeTop
       → Birth t s (record { group = In (newGroup (t .books)); parent = Nobody; thread = false; system = false }) (setInit s (openGroup size (t .books)))
   ofSystem : Birth t s (record { group = Alone; parent = Nobody; thread = false; system = true }) (t .books)
-  ofChild : known (t .books .init) ≡ true → (q size : ℕ) → size ≤ sizeTop
+  ofChild : known (t .books .init) ≡ true → (q : ℕ) → Elder (at (t .core) q) → (size : ℕ) → size ≤ sizeTop
       → Birth t s (record { group = In (newGroup (t .books)); parent = Of (slot q); thread = false; system = false }) (openGroup size (t .books))
-  ofThread : known (t .books .init) ≡ true → (g : ℕ) (q : Parent) → known q ≡ true → (j : ℕ) → j < length (t .core .slots) → names g (at (t .core) j) ≡ true
+  ofThread : known (t .books .init) ≡ true → (g : ℕ) (q : Parent) → known q ≡ true → ((x : ℕ) → isSlot x q ≡ true → Elder (at (t .core) x)) → (j : ℕ) → j < length (t .core .slots) → names g (at (t .core) j) ≡ true
       → Birth t s (record { group = In g; parent = q; thread = true; system = false }) (joinGroup g (t .books))
 
 pub data Move : Table → Table → Type 0 where
@@ -67,12 +68,12 @@ pub data Move : Table → Table → Type 0 where
       → Move t (record { core = t .core; books = resize g n (t .books) })
 
 pub data Chain : Table → Table → Type 0 where
-  none : {t : Table} → Chain t t
-  more : {t u v : Table} → Chain t u → Move u v → Chain t v
+  still : {t : Table} → Chain t t
+  andThen : {t u v : Table} → Chain t u → Move u v → Chain t v
 
 pub one : {t u : Table} → Move t u → Chain t u
-one m = more none m
+one m = andThen still m
 
 pub chained : {t u v : Table} → Chain t u → Chain u v → Chain t v
-chained a none = a
-chained a (more b m) = more (chained a b) m
+chained a still = a
+chained a (andThen b m) = andThen (chained a b) m

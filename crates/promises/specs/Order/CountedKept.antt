@@ -15,7 +15,8 @@ use Rattle.rules.specs.Sizes.{slotCount, groupCount, sizeTop}
 use Rattle.rules.specs.Model.{Core, Books, Table, at, groupAt, noGroup, free, taken, is, sameGroup}
 use Rattle.rules.specs.Moves.{change, lowest, setGroup, emptyGroup, orZero, newGroup, openGroup, joinGroup, less, leaveGroup, resize, setInit, spend, toFree, reap}
 use Rattle.rules.specs.Calls.{fill, spent}
-use Rattle.promises.specs.Laws.Lists.{ind, tally, tally-set, tally-same, tally-lt, tally-one, sumTo, sum-zero, sum-add, sum-same, sum-least, sum-once}
+use Rattle.promises.specs.Laws.Counts.{ind, tally, tally-set, tally-same, tally-lt, tally-one}
+use Rattle.promises.specs.Laws.Sums.{sumTo, sum-zero, sum-add, sum-same, sum-least, sum-once}
 use Rattle.promises.specs.Laws.Scans.{lowest-passes, lowest-range, lowest-none}
 use Rattle.promises.specs.Order.Sound.{isIn, names, Counted}
 use Rattle.promises.specs.Order.States.{used-range}
@@ -199,8 +200,8 @@ module _ (t : Table) (tall : length (t .core .slots) ≡ slotCount) (w : Counted
   unfolding setInit joinGroup fill change
   birth-counted (ofInit _ size m) p e = let o = open-counted p size m (ap (λ (k : Kin). k .group) e) in record { tall = o .tall; count = o .count; empty = o .empty; top = o .top }
   birth-counted ofSystem p e = counted-alone (t .core) (fill s p (t .core)) (t .books) s p refl r alone (ap (λ (k : Kin). k .group) e) w
-  birth-counted (ofChild _ _ size m) p e = open-counted p size m (ap (λ (k : Kin). k .group) e)
-  birth-counted (ofThread _ g _ _ j q n) p e =
+  birth-counted (ofChild _ _ _ size m) p e = open-counted p size m (ap (λ (k : Kin). k .group) e)
+  birth-counted (ofThread _ g _ _ _ j q n) p e =
       counted-in (t .core) (t .books) s p g _ r alone (ap (λ (k : Kin). k .group) e) (named-range (t .core) (t .books) w j g q n) refl (w .top g) w
 
 pub view-counted : {t u : Table} → length (t .core .slots) ≡ slotCount → ((s : ℕ) → is UNUSED (at (t .core) s) ≡ true → at (t .core) s ≡ free)

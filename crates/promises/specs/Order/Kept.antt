@@ -8,16 +8,18 @@ use Rattle.rules.specs.Sizes.{slotCount, hartCount}
 use Rattle.rules.specs.Model.{Core, Table, at, hartAt, is}
 use Rattle.rules.specs.Moves.{change, publish, hand, idle, yieldOn, sleepOn, zombieOn, publishIf, sleepsOn, wakeOne, wake, wakeOf, reap}
 use Rattle.rules.specs.Calls.{fill, spent}
-use Rattle.promises.specs.Laws.Scans.{wakeOf-any, sweep-keeps}
+use Rattle.promises.specs.Order.Wakes.{wakeOf-any}
+use Rattle.promises.specs.Laws.Scans.{sweep-keeps}
 use Rattle.promises.specs.Order.Sound.{Sound}
 use Rattle.promises.specs.Order.States.{head-ready}
-use Rattle.promises.specs.Order.Chains.{onCore, Move, publishing, yielding, sleeping, dying, marking, adopting, spending, filling, freeing, returning, resizing, Chain, none, more, chained}
+use Rattle.promises.specs.Order.Chains.{onCore, Move, publishing, yielding, sleeping, dying, marking, adopting, spending, filling, freeing, returning, resizing, Chain, still, andThen, chained}
 use Rattle.promises.specs.Order.Alike.{view, hand-view}
 use Rattle.promises.specs.Order.QueuedKept.{move-queued, hand-queued}
 use Rattle.promises.specs.Order.NumberedKept.{view-numbered}
 use Rattle.promises.specs.Order.CountedKept.{view-counted}
 use Rattle.promises.specs.Order.TidyKept.{move-tidy, hand-tidy}
 use Rattle.promises.specs.Order.AsleepKept.{move-asleep, hand-asleep}
+use Rattle.promises.specs.Order.RaisedKept.{move-raised, hand-raised}
 
 pub move-sound : {t u : Table} → Sound t → Move t u → Sound u
 move-sound w m = record {
@@ -26,11 +28,12 @@ move-sound w m = record {
   tidy = move-tidy (w .queued) (w .tidy) m;
   counted = view-counted (w .queued .tall) (λ s. w .tidy s .unused) (w .counted) (view (w .queued) m);
   asleep = move-asleep (w .queued) (w .tidy) (w .asleep) m;
+  raised = move-raised (w .tidy) (w .raised) m;
 }
 
 pub chain-sound : {t u : Table} → Sound t → Chain t u → Sound u
-chain-sound w none = w
-chain-sound w (more c m) = move-sound (chain-sound w c) m
+chain-sound w still = w
+chain-sound w (andThen c m) = move-sound (chain-sound w c) m
 
 -- the head goes to an idle hart
 pub hand-sound : (t : Table) (h s : ℕ) (rest : List ℕ) → Sound t → t .core .queue ≡ s ∷ rest → h < hartCount → hartAt (t .core) h ≡ Nobody → Sound (onCore (hand h s rest) t)
@@ -41,6 +44,7 @@ hand-sound t h s rest w q r e = record {
   tidy = hand-tidy (t .books .init) h s rest (t .core) ready (w .tidy);
   counted = view-counted (w .queued .tall) (λ j. w .tidy j .unused) (w .counted) (hand-view t h s rest ready);
   asleep = hand-asleep h s rest (t .core) (w .asleep) ready;
+  raised = hand-raised h s rest (t .core) (w .raised);
 }
   where
     ready : is RUNNABLE (at (t .core) s) ≡ true
@@ -48,7 +52,7 @@ hand-sound t h s rest w q r e = record {
 
 -- each table of a row is reached from the one before it
 pub chain-steps : (g : ℕ → Table) → Sound (g 0) → ((i : ℕ) → Sound (g i) → Chain (g i) (g (suc i))) → (n : ℕ) → Chain (g 0) (g n)
-chain-steps g w k zero = none
+chain-steps g w k zero = still
 chain-steps g w k (suc n) = let c = chain-steps g w k n in chained c (k n (chain-sound w c))
 
 -- ---- the queue only grows, at its tail
@@ -88,5 +92,5 @@ move-grows (returning {t} h s _ _) = same (t .core .queue)
 move-grows (resizing {t} _ _ _ _ _ _) = same (t .core .queue)
 
 pub chain-grows : {t u : Table} → Chain t u → Grows (t .core .queue) (u .core .queue)
-chain-grows {t} none = same (t .core .queue)
-chain-grows (more c m) = longer (chain-grows c) (move-grows m)
+chain-grows {t} still = same (t .core .queue)
+chain-grows (andThen c m) = longer (chain-grows c) (move-grows m)

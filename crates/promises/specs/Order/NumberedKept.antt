@@ -10,7 +10,8 @@ use Rattle.rules.specs.Model.{Core, Table, at, free, taken, is}
 use Rattle.rules.specs.Moves.{change, resize, spend, toFree, reap}
 use Rattle.rules.specs.Calls.{fill, spent}
 use Rattle.promises.specs.Order.Books.{leave-pids, birth-pids}
-use Rattle.promises.specs.Laws.Lists.{clash, all-set, set-cases}
+use Rattle.promises.specs.Laws.Bools.{clash}
+use Rattle.promises.specs.Laws.Lists.{all-set, set-cases}
 use Rattle.promises.specs.Order.Sound.{Numbered}
 use Rattle.promises.specs.Order.States.{free-unused}
 use Rattle.promises.specs.Order.Alike.{Alikes, View, stirs, spends, fills, frees, resizes}

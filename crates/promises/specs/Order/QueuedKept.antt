@@ -12,8 +12,11 @@ use Rattle.rules.specs.Sizes.{slotCount}
 use Rattle.rules.specs.Model.{Core, Table, at, hartAt, free, taken, is, isSlot, slot, onMeta, asRunnable, asRunning, asSleeping, asZombie, asKilled, withParent}
 use Rattle.rules.specs.Moves.{handOver, change, publish, hand, idle, yieldOn, sleepOn, zombieOn, publishIf, sleepsOn, wakeOne, wake, wakeOf, toFree, reap}
 use Rattle.rules.specs.Calls.{fill, spent}
-use Rattle.promises.specs.Laws.Lists.{and-left, ind, tally, tally-append, tally-set, delta, all-set, rel-set}
-use Rattle.promises.specs.Laws.Scans.{wakeOf-any, sweep-keeps}
+use Rattle.promises.specs.Laws.Bools.{and-left}
+use Rattle.promises.specs.Laws.Counts.{ind, tally, tally-append, tally-set, delta}
+use Rattle.promises.specs.Laws.Lists.{all-set, rel-set}
+use Rattle.promises.specs.Order.Wakes.{wakeOf-any}
+use Rattle.promises.specs.Laws.Scans.{sweep-keeps}
 use Rattle.promises.specs.Order.Sound.{Queued}
 use Rattle.promises.specs.Order.States.{other, used-range, Quiet, quiet, hart-range, runs-running, runs-range, head-ready}
 use Rattle.promises.specs.Order.Chains.{onCore, Move, publishing, yielding, sleeping, dying, marking, adopting, spending, filling, freeing, returning, resizing}

@@ -9,7 +9,8 @@ use borrow.Author.Tests.{eq-eqb}
 use Rattle.promises.specs.Types.{UNUSED, RUNNABLE}
 use Rattle.rules.specs.Sizes.{slotCount}
 use Rattle.rules.specs.Model.{Core, at, is}
-use Rattle.promises.specs.Laws.Lists.{ind, ind-small, ind-true, tally, tally-one, sumTo, sum-most, sum-below, sum-counts}
+use Rattle.promises.specs.Laws.Counts.{ind, ind-small, ind-true, tally, tally-one}
+use Rattle.promises.specs.Laws.Sums.{sumTo, sum-most, sum-below, sum-counts}
 use Rattle.promises.specs.Order.Sound.{Queued}
 use Rattle.promises.specs.Order.States.{other, used-range}
 

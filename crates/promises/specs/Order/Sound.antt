@@ -5,12 +5,12 @@ use mathlib.Core.Logic.{_≢_}
 use mathlib.Core.Bool.{Bool, true, false}
 use lib.ListN.{length}
 use lib.Dec.{eqb}
-use Rattle.promises.specs.Types.{UNUSED, RUNNABLE, RUNNING, ZOMBIE, Parent, Nobody, Member, Alone, In, Process}
+use Rattle.promises.specs.Types.{UNUSED, RUNNABLE, RUNNING, ZOMBIE, Parent, Nobody, Of, Member, Alone, In, Process}
 use Rattle.rules.specs.Sizes.{slotCount, groupCount, hartCount, pidTop, nameSize, sizeTop, ownChannel}
 use Rattle.rules.specs.Model.{Core, Books, Table, at, groupAt, free, is, isSlot, known, sameGroup}
 use Rattle.rules.specs.Moves.{sleepsOn}
 use Rattle.rules.specs.Calls.{zombieChildOf, threadOf}
-use Rattle.promises.specs.Laws.Lists.{ind, tally}
+use Rattle.promises.specs.Laws.Counts.{ind, tally}
 
 -- the queue holds exactly the RUNNABLE slots, once each; the harts exactly the RUNNING ones, once each; the flag agrees
 pub record Queued (c : Core) : Type 0 where
@@ -31,11 +31,28 @@ abbrev pub isIn : Member → Bool
 isIn Alone = false
 isIn (In g) = true
 
--- init is a live user slot, no thread, and has no parent
-pub record First (p : Process) : Type 0 where
+-- a parent, a hart's slot or init, and a group, that the table has
+abbrev pub InTable : Parent → Type 0
+InTable Nobody = Unit {0}
+InTable (Of s) = s .0 < slotCount
+
+abbrev pub InGroups : Member → Type 0
+InGroups Alone = Unit {0}
+InGroups (In g) = g < groupCount
+
+-- a slot that others may have as their parent
+pub record Elder (p : Process) : Type 0 where
   pub used : is UNUSED p ≡ false
   pub live : is ZOMBIE p ≡ false
   pub user : p .kin .system ≡ false
+
+-- whoever has a parent has one that is there
+pub record Raised (c : Core) : Type 0 where
+  pub elder : (s q : ℕ) → isSlot q (at c s .kin .parent) ≡ true → Elder (at c q)
+
+-- init is a live user slot, no thread, and has no parent
+pub record First (p : Process) : Type 0 where
+  pub elder : Elder p
   pub leads : p .kin .thread ≡ false
   pub orphan : p .kin .parent ≡ Nobody
 
@@ -79,3 +96,4 @@ pub record Sound (t : Table) : Type 0 where
   pub tidy : (s : ℕ) → Tidy (t .books .init) s (at (t .core) s)
   pub counted : Counted (t .core) (t .books)
   pub asleep : Asleep (t .core)
+  pub raised : Raised (t .core)

@@ -11,7 +11,8 @@ use lib.Dec.{eqb}
 use borrow.Author.Tests.{eqb-true, eq-eqb}
 use Rattle.promises.specs.Types.{Slot, ProcState, UNUSED, ALLOCATED, RUNNABLE, RUNNING, SLEEPING, ZOMBIE, Parent, Nobody, Of, Process}
 use Rattle.rules.specs.Model.{Core, at, hartAt, free, is, isSlot, known, slot, stateCode}
-use Rattle.promises.specs.Laws.Lists.{clash, ind-true, tally, tally-one}
+use Rattle.promises.specs.Laws.Bools.{clash}
+use Rattle.promises.specs.Laws.Counts.{ind-true, tally, tally-one}
 use Rattle.promises.specs.Order.Sound.{Queued}
 
 pub other : (a b : ProcState) (p : Process) → is a p ≡ true → is b p ≡ eqb (stateCode b) (stateCode a)

@@ -12,9 +12,11 @@ use Rattle.rules.specs.Sizes.{slotCount, nameSize}
 use Rattle.rules.specs.Model.{Core, Books, Table, at, free, taken, is, isSlot, known, slot, onMeta, asRunnable, asRunning, asSleeping, asZombie, asKilled, withParent}
 use Rattle.rules.specs.Moves.{change, publish, hand, idle, yieldOn, sleepOn, zombieOn, publishIf, sleepsOn, wakeOne, wake, wakeOf, openGroup, joinGroup, resize, setInit, spend, toFree, reap}
 use Rattle.rules.specs.Calls.{fill, spent}
-use Rattle.promises.specs.Laws.Lists.{and-left, clash, all-set}
+use Rattle.promises.specs.Laws.Bools.{and-left, clash}
+use Rattle.promises.specs.Laws.Lists.{all-set}
 use Rattle.promises.specs.Order.Books.{leave-init}
-use Rattle.promises.specs.Laws.Scans.{wakeOf-any, sweep-keeps}
+use Rattle.promises.specs.Order.Wakes.{wakeOf-any}
+use Rattle.promises.specs.Laws.Scans.{sweep-keeps}
 use Rattle.promises.specs.Order.Sound.{isIn, Queued, First, Tidy}
 use Rattle.promises.specs.Order.States.{other, quiet, runs-used}
 use Rattle.promises.specs.Order.Chains.{onCore, Vacant, Birth, ofInit, ofSystem, ofChild, ofThread, Move, publishing, yielding, sleeping, dying, marking, adopting, spending, filling, freeing, returning, resizing}
@@ -32,7 +34,7 @@ tidy-meta init s p f u v z y w = record {
   group = λ _. w .group u;
   after = λ _. w .after u;
   child = λ _. w .child u;
-  first = λ e. let o = w .first e in record { used = v; live = z e; user = o .user; leads = o .leads; orphan = o .orphan };
+  first = λ e. let o = w .first e in record { elder = record { used = v; live = z e; user = o .elder .user }; leads = o .leads; orphan = o .orphan };
 }
 
 module _ (init : Parent) (c : Core) (w : AllTidy init c) where
@@ -101,7 +103,7 @@ tidy-user init s n k b l a y g q f = record {
   group = λ _ _. g;
   after = λ _ _. a;
   child = λ _ _. q;
-  first = λ e. record { used = refl; live = refl; user = y; leads = f e .0; orphan = f e .1 };
+  first = λ e. record { elder = record { used = refl; live = refl; user = y }; leads = f e .0; orphan = f e .1 };
 }
 
 tidy-system : (init : Parent) (s n : ℕ) (b : Start) → length (b .name) ≡ nameSize → isSlot s init ≡ false
@@ -131,7 +133,7 @@ tidy-before init s j p k n w = record {
 
 module _ (t : Table) (s n : ℕ) (b : Start) (l : length (b .name) ≡ nameSize) (x : Vacant t s) (w : AllTidy (t .books .init) (t .core)) where
   unused-not-init : isSlot s (t .books .init) ≡ false
-  unused-not-init = not-first (t .books .init) s (at (t .core) s) (w s) (λ o. clash (x .unused) (o .used))
+  unused-not-init = not-first (t .books .init) s (at (t .core) s) (w s) (λ o. clash (x .unused) (o .elder .used))
 
   -- init moves in: everybody else came before it
   init-tidy : (p : Process) → known (t .books .init) ≡ false → Tidy (Of (slot s)) s p → AllTidy (Of (slot s)) (fill s p (t .core))
@@ -146,9 +148,9 @@ module _ (t : Table) (s n : ℕ) (b : Start) (l : length (b .name) ≡ nameSize)
   unfolding setInit openGroup joinGroup fill
   birth-tidy (ofInit e _ _) = init-tidy (taken n _ b) e (tidy-user (Of (slot s)) s n _ b l refl refl refl (λ f. absurd (clash (eq-eqb s s refl) f)) (λ _. (refl, refl)))
   birth-tidy ofSystem = change-tidy (t .books .init) (t .core) w (λ _. taken n _ b) s (tidy-system (t .books .init) s n b l unused-not-init)
-  birth-tidy (ofChild a q _ _) = change-tidy (t .books .init) (t .core) w (λ _. taken n _ b) s
+  birth-tidy (ofChild a q _ _ _) = change-tidy (t .books .init) (t .core) w (λ _. taken n _ b) s
       (tidy-user (t .books .init) s n _ b l a refl refl (λ _. refl) (λ f. absurd (clash f unused-not-init)))
-  birth-tidy (ofThread a g q h _ _ _) = change-tidy (t .books .init) (t .core) w (λ _. taken n _ b) s
+  birth-tidy (ofThread a g q h _ _ _ _) = change-tidy (t .books .init) (t .core) w (λ _. taken n _ b) s
       (tidy-user (t .books .init) s n _ b l a refl refl (λ _. h) (λ f. absurd (clash f unused-not-init)))
 
 pub hand-tidy : (init : Parent) (h s : ℕ) (rest : List ℕ) (c : Core) → is RUNNABLE (at c s) ≡ true → AllTidy init c → AllTidy init (hand h s rest c)
@@ -164,13 +166,13 @@ move-tidy v w (sleeping {t} h s ch e _) = change-tidy (t .books .init) (idle h (
 move-tidy v w (dying {t} h s x e f) = change-tidy (t .books .init) (idle h (t .core)) w (onMeta (asZombie x)) s
     (tidy-meta (t .books .init) s (at (t .core) s) (asZombie x) (runs-used h s (t .core) v e) refl (λ i. absurd (clash i (f .mortal))) (λ y. absurd (clash y (f .user))) (w s))
 move-tidy v w (marking {t} s u) = change-tidy (t .books .init) (t .core) w (onMeta asKilled) s
-    (tidy-meta (t .books .init) s (at (t .core) s) asKilled u u (λ i. w s .first i .live) (λ y. w s .lone y .3) (w s))
+    (tidy-meta (t .books .init) s (at (t .core) s) asKilled u u (λ i. w s .first i .elder .live) (λ y. w s .lone y .3) (w s))
 move-tidy v w (adopting {t} i k) = wakeOf-tidy (t .books .init) (t .books .init) _
     (change-tidy (t .books .init) (t .core) w (withParent (t .books .init)) i (tidy-adopted (t .books .init) i (at (t .core) i) k (w i)))
 move-tidy v w (spending _) = w
 move-tidy v w (filling {t} s k b d x y l) = birth-tidy t s (t .books .pids) b l x w y
 move-tidy v w (freeing {t} s z) = rw (leave-init (at (t .core) s .kin .group) (t .books)) (change-tidy (t .books .init) (t .core) w toFree s
-    (tidy-free (t .books .init) s (not-first (t .books .init) s (at (t .core) s) (w s) (λ o. clash z (o .live)))))
+    (tidy-free (t .books .init) s (not-first (t .books .init) s (at (t .core) s) (w s) (λ o. clash z (o .elder .live)))))
 move-tidy v w (returning {t} h s e y) = rw (leave-init (at (t .core) s .kin .group) (t .books)) (change-tidy (t .books .init) (idle h (t .core)) w toFree s
-    (tidy-free (t .books .init) s (not-first (t .books .init) s (at (t .core) s) (w s) (λ o. clash y (o .user)))))
+    (tidy-free (t .books .init) s (not-first (t .books .init) s (at (t .core) s) (w s) (λ o. clash y (o .elder .user)))))
 move-tidy v w (resizing _ _ _ _ _ _) = w

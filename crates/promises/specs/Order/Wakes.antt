@@ -1,21 +1,21 @@
 -- What a wake leaves alone, and that nobody sleeps on its channel afterwards.
-use Prim.Native.Nat.{ℕ, zero, suc, _<_}
+use Prim.Native.Nat.{ℕ, _<_}
 use native.Mathlib.Omega.{arith}
-use native.Mathlib.Nat.{not-suc-le-zero}
 use mathlib.Core.Path.{_≡_, refl, sym, ap, _∙_}
 use mathlib.Core.Logic.{_⊎_, inl, inr}
 use mathlib.Core.Bool.{Bool, true, false}
 use mathlib.Core.List.{List}
 use lib.ListN.{length, getD, set, List·getD-eq-default}
 use lib.Seq.{getD-set-same}
-use lib.Dec.{leb, eqb}
-use borrow.Author.Tests.{leb-true, leb-false, eqb-true, eqb-false}
-use Rattle.promises.specs.Types.{UNUSED, SLEEPING, ZOMBIE, Process}
-use Rattle.rules.specs.Sizes.{slotCount}
+use lib.Dec.{leb}
+use borrow.Author.Tests.{leb-true, leb-false}
+use Rattle.promises.specs.Types.{UNUSED, SLEEPING, ZOMBIE, Parent, Nobody, Of, Process}
+use Rattle.rules.specs.Sizes.{slotCount, ownChannel}
 use Rattle.rules.specs.Model.{Core, at, free, is, onMeta, asRunnable}
-use Rattle.rules.specs.Moves.{change, publish, sweep, publishIf, sleepsOn, wakeOne, wake}
-use Rattle.promises.specs.Laws.Lists.{and-left, clash, rel-set, set-cases}
-use Rattle.promises.specs.Laws.Scans.{sweep-keeps}
+use Rattle.rules.specs.Moves.{change, publish, sweep, publishIf, sleepsOn, wakeOne, wake, wakeOf}
+use Rattle.promises.specs.Laws.Bools.{and-left, clash}
+use Rattle.promises.specs.Laws.Lists.{rel-set, set-cases}
+use Rattle.promises.specs.Laws.Scans.{sweep-keeps, sweep-each}
 use Rattle.promises.specs.Order.States.{other, used-range}
 
 -- to other slots y is as p was, and it sleeps on no channel on which p did not
@@ -84,13 +84,7 @@ module _ (ch s : ℕ) (c : Core) where
       go false e = e
 
 below-awake : (ch n : ℕ) (c : Core) (j : ℕ) → j < n → sleepsOn ch (at (sweep (wakeOne ch) n c) j) ≡ false
-unfolding sweep
-below-awake ch zero c j r = absurd (not-suc-le-zero r)
-below-awake ch (suc n) c j r = go (eqb j n) refl (below-awake ch n c j)
-  where
-    go : (b : Bool) → eqb j n ≡ b → (j < n → sleepsOn ch (at (sweep (wakeOne ch) n c) j) ≡ false) → sleepsOn ch (at (wakeOne ch n (sweep (wakeOne ch) n c)) j) ≡ false
-    go true e f = rw (eqb-true j n e) (now-awake ch n (sweep (wakeOne ch) n c))
-    go false e f = let ne = eqb-false j n e in stays-awake ch n (sweep (wakeOne ch) n c) j (f (omega (arith, ne)))
+below-awake ch = sweep-each (λ j (d : Core). sleepsOn ch (at d j) ≡ false) (wakeOne ch) (now-awake ch) (λ s j d. stays-awake ch s d j)
 
 pub wake-empties : (ch : ℕ) (c : Core) → length (c .slots) ≡ slotCount → (j : ℕ) → sleepsOn ch (at (wake ch c) j) ≡ false
 unfolding wake
@@ -106,3 +100,12 @@ wake-empties ch c tall j = go (leb slotCount j) refl
         off true f = absurd (clash (wake-calm ch c j .sleeps ch f) past)
         off false f = f
     go false e = below-awake ch slotCount c j (leb-false slotCount j e)
+
+-- what a wake keeps, whoever is woken, the wake of a slot keeps, if there is one
+pub wakeOf-any : (I : Core → Type 0) (c : Core) → I c → ((ch : ℕ) → I (wake ch c)) → (p : Parent) → I (wakeOf p c)
+unfolding wakeOf
+wakeOf-any I c v k Nobody = v
+wakeOf-any I c v k (Of s) = k (ownChannel (s .0))
+
+pub wakeOf-calm : (p : Parent) (c : Core) (j : ℕ) → Calm (at c j) (at (wakeOf p c) j)
+wakeOf-calm p c j = wakeOf-any (λ (d : Core). Calm (at c j) (at d j)) c (calm-same (at c j)) (λ ch. wake-calm ch c j) p

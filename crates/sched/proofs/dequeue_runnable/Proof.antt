@@ -11,7 +11,7 @@ use Rattle.sched.proofs.dequeue_runnable.Tie as tie
 
 returns : tie.Need-returns
 unfolding hartCount
-returns c = did (c .before .pre) (dispatch-none (tableOf (c .before .args .t .now)) _ (c .if1 .taken))
+returns c = did (c .before .pre) (dispatch-none (tableOf (c .before .args .t .now)) _ (omega arith))
 
 hart-at-requires : tie.Need-hart-at-requires
 unfolding hartCount

@@ -2,6 +2,7 @@ use Rattle.sched.proofs.SchedLaws.{kill-no, kill-is}
 use Rattle.promises.specs.Did.{did}
 use Rattle.words.specs.Reading.{tableOf}
 use mathlib.Core.Path.{sym, subst}
+use native.Mathlib.Omega.{arith}
 use Rattle.scans.specs.Tests.{InRange}
 use borrow.Author.Needs.{needs}
 use Rattle.sched.proofs.kill.Statement.{statement}
@@ -17,7 +18,7 @@ enum-known-f : tie.Need-enum-known-f
 enum-known-f c = search needs
 
 slay-requires : tie.Need-slay-requires
-slay-requires c κs = (subst InRange (c .before .before .f .given .1) (c .before .before .before .before .find .ensures .1), c .before .before .before .before .before .before .pre .queued)
+slay-requires c κs = (omega (arith, subst InRange (c .before .before .f .given .1) (c .before .before .before .before .find .ensures .1)), c .before .before .before .before .before .before .pre .queued)
 
 returns : tie.Need-returns
 returns c = did (c .before .before .before .before .pre) (kill-no (tableOf (c .before .before .before .before .args .t .now)) (c .before .before .before .before .args .p) (c .before .before .find .result) (c .before .before .find .ensures .0) (cc))

@@ -2,6 +2,7 @@ use Rattle.sched.proofs.SchedLaws.{sleep-no, sleep-low, sleep-is}
 use Rattle.promises.specs.Did.{did}
 use Rattle.words.specs.Reading.{tableOf}
 use mathlib.Core.Path.{sym, subst, _∙_}
+use native.Mathlib.Omega.{arith}
 use Rattle.taking.specs.Parts.{InHart}
 use Rattle.rules.specs.Sizes.{slotCount, firstDevice}
 use borrow.Author.Needs.{needs}
@@ -19,7 +20,7 @@ enum-known-c-2 c = search needs
 
 returns : tie.Need-returns
 unfolding firstDevice slotCount
-returns c = did (c .before .before .before .before .before .before .pre) (sleep-low (tableOf (c .before .before .before .before .before .before .args .t .now)) _ _ (sym (c .before .before .c2 .given .1) ∙ c .before .before .before .before .caller-on .ensures .0) (c .if1 .taken))
+returns c = did (c .before .before .before .before .before .before .pre) (sleep-low (tableOf (c .before .before .before .before .before .before .args .t .now)) _ _ (sym (c .before .before .c2 .given .1) ∙ c .before .before .before .before .caller-on .ensures .0) (omega arith))
 
 sleep-on-requires : tie.Need-sleep-on-requires
 sleep-on-requires c κs = let k = subst (InHart _) (c .before .before .before .c2 .given .1) (c .before .before .before .before .before .caller-on .ensures .1) in (k .1, k .0)
@@ -29,7 +30,7 @@ returns-2 c = did (c .before .before .before .before .before .pre) (sleep-no (ta
 
 returns-3 : tie.Need-returns-3
 unfolding firstDevice slotCount
-returns-3 c = did (c .before .before .before .before .before .before .before .before .pre) (sleep-is (tableOf (c .before .before .before .before .before .before .before .before .args .t .now)) _ _ (sym (c .before .before .before .before .c2 .given .1) ∙ c .before .before .before .before .before .before .caller-on .ensures .0) (c .before .before .if1 .left) (c .sleep-on .ensures))
+returns-3 c = did (c .before .before .before .before .before .before .before .before .pre) (sleep-is (tableOf (c .before .before .before .before .before .before .before .before .args .t .now)) _ _ (sym (c .before .before .before .before .c2 .given .1) ∙ c .before .before .before .before .before .before .caller-on .ensures .0) (omega arith) (c .sleep-on .ensures))
 
 pub sleep-spec : {M : Type 1} → statement M
 sleep-spec =

@@ -2,6 +2,7 @@ use Rattle.sched.proofs.SchedLaws.{caller-room, yield-no, yield-is}
 use Rattle.promises.specs.Did.{did}
 use Rattle.words.specs.Reading.{tableOf}
 use mathlib.Core.Path.{sym, subst, _∙_}
+use native.Mathlib.Omega.{arith}
 use Rattle.taking.specs.Parts.{InHart}
 use borrow.Author.Needs.{needs}
 use Rattle.sched.proofs.yielding.Statement.{statement}
@@ -18,7 +19,7 @@ enum-known-c-2 c = search needs
 
 yield-on-requires : tie.Need-yield-on-requires
 yield-on-requires c κs = let k = subst (InHart _) (c .before .before .c2 .given .1) (c .before .before .before .before .caller-on .ensures .1) in
-    (k .1, k .0, caller-room _ (c .before .before .before .before .before .before .args .h) _ (c .before .before .before .before .before .before .pre .queued) (sym (c .before .before .c2 .given .1) ∙ c .before .before .before .before .caller-on .ensures .0))
+    (omega (arith, k .1), k .0, caller-room _ (c .before .before .before .before .before .before .args .h) _ (c .before .before .before .before .before .before .pre .queued) (sym (c .before .before .c2 .given .1) ∙ c .before .before .before .before .caller-on .ensures .0))
 
 returns : tie.Need-returns
 returns c = did (c .before .before .before .before .before .pre) (yield-no (tableOf (c .before .before .before .before .before .args .t .now)) _ _ (sym (c .before .c .given .1) ∙ c .before .before .before .caller-on .ensures .0))

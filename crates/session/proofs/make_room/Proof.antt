@@ -1,4 +1,6 @@
 use Rattle.rules.specs.Sizes.{slotCount, hartCount, nameSize}
+use Rattle.session.proofs.StandLaws.{stays, leaves}
+use lib.ListN.{length}
 use lib.Seq.{length-take-le}
 use mathlib.Core.Path.{sym}
 use native.Mathlib.Omega.{arith}
@@ -12,7 +14,7 @@ sub-if1 c = omega (arith, c .before .pre .0)
 
 returns : tie.Need-returns
 unfolding slotCount hartCount nameSize
-returns c = omega (arith, c .before .before .pre .0, c .if1 .taken)
+returns c = stays (c .before .before .args .at) (length (c .before .before .args .out .now)) (omega (arith, c .before .before .pre .0, c .if1 .taken))
 
 slice-aggregate-write-all : tie.Need-slice-aggregate-write-all
 slice-aggregate-write-all c = sym (length-take-le (c .before .before .before .args .at) (c .before .before .before .args .out .now) (c .before .before .before .pre .1))
@@ -21,7 +23,8 @@ write-all-requires : tie.Need-write-all-requires
 write-all-requires c κs = search needs
 
 returns-2 : tie.Need-returns-2
-returns-2 c = search needs
+unfolding slotCount hartCount nameSize
+returns-2 c = leaves (c .before .before .before .before .args .at) (length (c .before .before .before .before .args .out .now)) (c .before .before .before .before .pre .0) (omega (arith, c .before .before .before .before .pre .0, c .before .before .if1 .left))
 
 pub make-room-spec : {M : Type 1} → statement M
 make-room-spec =

@@ -1,19 +1,20 @@
-use Rattle.session.proofs.StandLaws.{Stands, stands, room-made, taken, nearer}
+use Rattle.session.proofs.StandLaws.{Midway, begun, room-made, nearer, next, all-heard}
+use Rattle.talk.specs.Places.{seatOf}
 use native.Mathlib.Omega.{arith}
 use mathlib.Core.Path.{refl}
 use lib.ListN.{length}
-use Prim.Native.Nat.{_-_, _≤_}
+use Prim.Native.Nat.{_-_}
 use Rattle.session.proofs.take_all.Statement.{statement}
 use Rattle.session.proofs.take_all.Tie as tie
 
 abbrev Inv-loop : tie.InvT-loop
-Inv-loop t₀ chunk line₀ name₀ out₀ len₀ number₀ at₀ done₀ t line name out len number at done = (done ≤ length chunk) × Stands line₀ name₀ out₀ t line name out len number at
+Inv-loop t₀ chunk line₀ name₀ out₀ len₀ number₀ at₀ done₀ t line name out len number at done = Midway (seatOf t₀ line₀ out₀ (record { len = len₀; number = number₀; at = at₀ })) line₀ name₀ out₀ chunk t line name out len number at done
 
 abbrev μ-loop : tie.MeasureT-loop
 μ-loop t₀ chunk line₀ name₀ out₀ len₀ number₀ at₀ done₀ t line name out len number at done = length chunk - done
 
 loop-holds : tie.Need-loop-holds Inv-loop μ-loop
-loop-holds c = (omega arith, stands _ _ _ (c .before .before .before .before .pre))
+loop-holds c = begun _ _ _ _ _ refl (c .before .before .before .before .pre)
 
 sub-take : tie.Need-sub-take Inv-loop μ-loop
 sub-take c = omega (arith, c .before .loop-test)
@@ -25,31 +26,31 @@ part-take-end : tie.Need-part-take-end Inv-loop μ-loop
 part-take-end c = omega arith
 
 take-requires : tie.Need-take-requires Inv-loop μ-loop
-take-requires c κs = c .before .before .before .before .before .before .loop .inv .1 .ready
+take-requires c κs = c .before .before .before .before .before .before .loop .inv .stand .heard .ready
 
 make-room-requires : tie.Need-make-room-requires Inv-loop μ-loop
-make-room-requires c κs = room-made _ _ _ (c .before .before .before .before .before .before .before .before .before .before .before .before .before .before .before .loop .inv .1) (c .before .before .before .before .before .before .before .before .take .ensures) (c .before .before .before .before .before .before .before .before .take .kept .1 .1 .1 .1 .0)
+make-room-requires c κs = room-made _ _ _ _ (c .before .before .before .before .before .before .before .before .before .before .before .before .before .before .before .loop .inv .stand) (c .before .before .before .before .before .before .before .before .take .ensures) (c .before .before .before .before .before .before .before .before .take .kept .1 .1 .1 .1 .0)
 
 add-done : tie.Need-add-done Inv-loop μ-loop
-add-done c = omega (arith, c .before .before .before .before .before .before .before .before .before .before .before .before .before .before .before .before .before .before .before .before .before .before .good .1 .0, nearer _ _ _ (c .before .before .before .before .before .before .before .before .before .before .before .before .before .before .before .before .before .loop .inv .1) (c .before .before .before .before .before .before .before .before .before .before .take .ensures) (c .before .before .before .before .before .before .before .before .before .before .take .kept .1 .1 .1 .1 .0) (c .before .before .before .before .before .before .before .before .before .before .before .before .before .before .before .before .before .before .before .before .before .before .args .chunk .now) (c .before .before .before .before .before .before .before .before .before .before .before .before .before .before .before .before .before .loop .done) (c .before .before .before .before .before .before .before .before .before .before .before .before .before .before .before .before .loop-test .taken) refl .1)
+add-done c = omega (arith, c .before .before .before .before .before .before .before .before .before .before .before .before .before .before .before .before .before .before .before .before .before .before .good .1 .0, nearer _ _ _ _ (c .before .before .before .before .before .before .before .before .before .before .before .before .before .before .before .before .before .loop .inv .stand) (c .before .before .before .before .before .before .before .before .before .before .take .ensures) (c .before .before .before .before .before .before .before .before .before .before .take .kept .1 .1 .1 .1 .0) (c .before .before .before .before .before .before .before .before .before .before .before .before .before .before .before .before .before .before .before .before .before .before .args .chunk .now) (c .before .before .before .before .before .before .before .before .before .before .before .before .before .before .before .before .before .loop .done) (c .before .before .before .before .before .before .before .before .before .before .before .before .before .before .before .before .loop-test .taken) refl .1)
 
 loop-less : tie.Need-loop-less Inv-loop μ-loop
-loop-less c = omega (arith, nearer _ _ _ (c .before .before .before .before .before .before .before .before .before .before .before .before .before .before .before .before .before .loop .inv .1) (c .before .before .before .before .before .before .before .before .before .before .take .ensures) (c .before .before .before .before .before .before .before .before .before .before .take .kept .1 .1 .1 .1 .0) (c .before .before .before .before .before .before .before .before .before .before .before .before .before .before .before .before .before .before .before .before .before .before .args .chunk .now) (c .before .before .before .before .before .before .before .before .before .before .before .before .before .before .before .before .before .loop .done) (c .before .before .before .before .before .before .before .before .before .before .before .before .before .before .before .before .loop-test .taken) refl)
+loop-less c = omega (arith, nearer _ _ _ _ (c .before .before .before .before .before .before .before .before .before .before .before .before .before .before .before .before .before .loop .inv .stand) (c .before .before .before .before .before .before .before .before .before .before .take .ensures) (c .before .before .before .before .before .before .before .before .before .before .take .kept .1 .1 .1 .1 .0) (c .before .before .before .before .before .before .before .before .before .before .before .before .before .before .before .before .before .before .before .before .before .before .args .chunk .now) (c .before .before .before .before .before .before .before .before .before .before .before .before .before .before .before .before .before .loop .done) (c .before .before .before .before .before .before .before .before .before .before .before .before .before .before .before .before .loop-test .taken) refl)
 
 loop-again : tie.Need-loop-again Inv-loop μ-loop
-loop-again c = (nearer _ _ _ (c .before .before .before .before .before .before .before .before .before .before .before .before .before .before .before .before .before .loop .inv .1) (c .before .before .before .before .before .before .before .before .before .before .take .ensures) (c .before .before .before .before .before .before .before .before .before .before .take .kept .1 .1 .1 .1 .0) (c .before .before .before .before .before .before .before .before .before .before .before .before .before .before .before .before .before .before .before .before .before .before .args .chunk .now) (c .before .before .before .before .before .before .before .before .before .before .before .before .before .before .before .before .before .loop .done) (c .before .before .before .before .before .before .before .before .before .before .before .before .before .before .before .before .loop-test .taken) refl .1, taken _ _ _ (c .before .before .before .before .before .before .before .before .before .before .before .before .before .before .before .before .before .loop .inv .1) (c .before .before .before .before .before .before .before .before .before .before .take .ensures) (c .before .before .before .before .before .before .before .before .before .before .take .kept .1 .1 .1 .1 .0) (c .before .before .before .before .before .before .before .before .before .before .take .kept .1 .1 .0) (c .before .before .before .before .before .before .before .before .before .before .take .kept .1 .1 .1 .0) (c .before .make-room .ensures))
+loop-again c = next _ _ _ _ (c .before .before .before .before .before .before .before .before .before .before .before .before .before .before .before .before .before .loop .inv) (c .before .before .before .before .before .before .before .before .before .before .take .ensures) (c .before .before .before .before .before .before .before .before .before .before .take .kept .1 .1 .1 .1 .0) (c .before .before .before .before .before .before .before .before .before .before .before .before .before .before .before .before .loop-test .taken) (c .before .before .before .before .before .before .before .before .before .before .take .kept .1 .1 .0) (c .before .before .before .before .before .before .before .before .before .before .take .kept .1 .1 .1 .0) (c .before .make-room .ensures .1)
 
 same-length : tie.Need-same-length Inv-loop μ-loop
-same-length c = c .before .loop .inv .1 .line-same
+same-length c = c .before .loop .inv .stand .line-same
 
 same-length-2 : tie.Need-same-length-2 Inv-loop μ-loop
-same-length-2 c = c .before .loop .inv .1 .name-same
+same-length-2 c = c .before .loop .inv .stand .name-same
 
 same-length-3 : tie.Need-same-length-3 Inv-loop μ-loop
-same-length-3 c = c .before .loop .inv .1 .out-same
+same-length-3 c = c .before .loop .inv .stand .out-same
 
 returns : tie.Need-returns Inv-loop μ-loop
-returns c = c .before .loop .inv .1 .ready
+returns c = all-heard _ _ _ _ (c .before .loop .inv) (c .loop-test .left)
 
 pub take-all-spec : {M : Type 1} → statement M
 take-all-spec =

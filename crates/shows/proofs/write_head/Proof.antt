@@ -1,4 +1,3 @@
-use Rattle.promises.specs.Order.Room.{queue-fits}
 use Rattle.pieces.specs.Pieces.{field, place}
 use Rattle.shows.specs.Shows.{headText}
 use Rattle.rules.specs.Listing.{bytes}
@@ -27,7 +26,7 @@ write-place-requires : tie.Need-write-place-requires
 write-place-requires c κs = search needs
 
 write-queue-requires : tie.Need-write-queue-requires
-write-queue-requires c κs = (queue-fits _ (c .before .before .before .before .before .before .before .before .before .before .before .before .before .before .pre .0 .queued), omega arith)
+write-queue-requires c κs = (c .before .before .before .before .before .before .before .before .before .before .before .before .before .before .pre .0, omega arith)
 
 write-harts-requires : tie.Need-write-harts-requires
 write-harts-requires c κs = search needs

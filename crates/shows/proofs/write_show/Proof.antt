@@ -1,13 +1,13 @@
+use Rattle.promises.specs.Order.Room.{queue-fits}
 use Rattle.shows.specs.Shows.{showText}
 use Rattle.buffers.proofs.TextLaws.{wrote-more}
-use Rattle.rules.specs.Sizes.{nameSize}
 use native.Mathlib.Omega.{arith}
 use borrow.Author.Needs.{needs}
 use Rattle.shows.proofs.write_show.Statement.{statement}
 use Rattle.shows.proofs.write_show.Tie as tie
 
 write-head-requires : tie.Need-write-head-requires
-write-head-requires c κs = search needs
+write-head-requires c κs = (queue-fits _ (c .before .before .pre .0 .queued), omega arith)
 
 write-slots-requires : tie.Need-write-slots-requires
 write-slots-requires c κs = search needs

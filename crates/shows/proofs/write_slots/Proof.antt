@@ -1,8 +1,7 @@
 use Rattle.shows.proofs.SlotsLaws.{Shown, shown-none, shown-room, shown-next, shown-all}
 use Rattle.buffers.proofs.TextLaws.{wrote-long}
 use Rattle.words.specs.Reading.{tableOf}
-use Rattle.rules.specs.Sizes.{slotCount, nameSize}
-use mathlib.Core.Path.{_≡_, sym, ap}
+use Rattle.rules.specs.Sizes.{slotCount}
 use Prim.Native.Nat.{_-_}
 use native.Mathlib.Omega.{arith}
 use Rattle.shows.proofs.write_slots.Statement.{statement}

@@ -1,8 +1,6 @@
 use Rattle.waits.proofs.WaitLaws.{childless, child-killed, child-awaited}
 use Rattle.words.specs.Reading.{tableOf}
 use mathlib.Core.Path.{sym}
-use native.Mathlib.Omega.{arith}
-use Rattle.rules.specs.Sizes.{slotCount}
 use borrow.Author.Needs.{needs}
 use Rattle.waits.proofs.await_child.Statement.{statement}
 use Rattle.waits.proofs.await_child.Tie as tie
@@ -25,15 +23,14 @@ enum-told-2 c = search needs
 returns-2 : tie.Need-returns-2
 returns-2 c = childless (tableOf (c .before .before .before .before .before .before .before .args .t .now)) (c .before .before .before .before .before .before .before .args .h) (c .before .before .before .before .before .before .before .args .w) (c .before .before .before .before .before .before .before .args .s) (c .before .before .find .result) (c .before .before .find .ensures .0) (cc)
 
-add-sleep-on : tie.Need-add-sleep-on
-unfolding slotCount
-add-sleep-on c = record { fits = omega (arith, c .before .before .before .before .before .before .before .before .pre .1) }
+own-channel-requires : tie.Need-own-channel-requires
+own-channel-requires c κs = search needs
 
 sleep-on-requires : tie.Need-sleep-on-requires
 sleep-on-requires c κs = search needs
 
 returns-3 : tie.Need-returns-3
-returns-3 c = child-awaited (tableOf (c .before .before .before .before .before .before .before .before .before .args .t .now)) (c .before .before .before .before .before .before .before .before .before .args .h) (c .before .before .before .before .before .before .before .before .before .args .w) (c .before .before .before .before .before .before .before .before .before .args .s) (c .before .before .before .before .find .result) (c .before .before .before .before .find .ensures .0) (sym (c .before .before .enum-told .given .1)) (c .before .before .before .before .before .before .before .meta-at .ensures) (c .before .before .before .before .before .before .if1 .left) (c .sleep-on .ensures)
+returns-3 c = let a = c .before .before .before .before .before .before .before .before .before .before .args in child-awaited (tableOf (a .t .now)) (a .h) (a .w) (a .s) (c .before .before .before .before .before .find .result) (c .before .before .before .before .before .find .ensures .0) (sym (c .before .before .before .enum-told .given .1)) (c .before .before .before .before .before .before .before .before .meta-at .ensures) (c .before .before .before .before .before .before .before .if1 .left) (rw (c .before .own-channel .ensures) at (c .sleep-on .ensures))
 
 pub await-child-spec : {M : Type 1} → statement M
 await-child-spec =
@@ -45,6 +42,6 @@ await-child-spec =
     enum-told
     enum-told-2
     returns-2
-    add-sleep-on
+    own-channel-requires
     sleep-on-requires
     returns-3)

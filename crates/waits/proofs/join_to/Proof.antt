@@ -2,8 +2,6 @@ use Rattle.waits.proofs.WaitLaws.{thread-unwritable, thread-joined, thr
 use Rattle.waits.proofs.StatusLaws.{signed-fits}
 use Rattle.words.specs.Reading.{tableOf}
 use mathlib.Core.Path.{sym, subst, _∙_}
-use native.Mathlib.Omega.{arith}
-use Rattle.rules.specs.Sizes.{slotCount}
 use mir.Syntax.{w32}
 use mir.Val.{SFits}
 use mir.Facts.{toZ-ofZ}
@@ -33,15 +31,14 @@ returns-2 : tie.Need-returns-2
 returns-2 c = let e = c .signed .ensures in thread-joined (tableOf (c .before .before .before .before .before .before .before .before .before .before .args .t .now)) (c .before .before .before .before .before .before .before .before .before .before .args .h) (c .before .before .before .before .before .before .before .before .before .before .args .w) (c .before .before .before .before .before .before .before .before .before .before .args .s) (c .before .before .before .before .before .before .before .before .before .before .args .i) (sym (c .before .before .before .before .before .before .before .before .is .ensures) ∙ c .before .before .before .before .before .before .before .if1 .taken) (sym (c .before .before .before .before .before .before .unwritable .ensures) ∙ c .before .before .before .before .before .if2 .left) (c .before .before .before .meta-at .ensures)
     (toZ-ofZ (subst (SFits w32) (sym e) (signed-fits (c .before .before .before .meta-at .result .xstate))) ∙ e) (c .before .free-proc .ensures)
 
-add-sleep-on : tie.Need-add-sleep-on
-unfolding slotCount
-add-sleep-on c = record { fits = omega (arith, c .before .before .before .before .pre .2) }
+own-channel-requires : tie.Need-own-channel-requires
+own-channel-requires c κs = search needs
 
 sleep-on-requires : tie.Need-sleep-on-requires
 sleep-on-requires c κs = search needs
 
 returns-3 : tie.Need-returns-3
-returns-3 c = thread-awaited (tableOf (c .before .before .before .before .before .args .t .now)) (c .before .before .before .before .before .args .h) (c .before .before .before .before .before .args .w) (c .before .before .before .before .before .args .s) (c .before .before .before .before .before .args .i) (sym (c .before .before .before .is .ensures) ∙ c .before .before .if1 .left) (c .sleep-on .ensures)
+returns-3 c = let a = c .before .before .before .before .before .before .args in thread-awaited (tableOf (a .t .now)) (a .h) (a .w) (a .s) (a .i) (sym (c .before .before .before .before .is .ensures) ∙ c .before .before .before .if1 .left) (rw (c .before .own-channel .ensures) at (c .sleep-on .ensures))
 
 pub join-to-spec : {M : Type 1} → statement M
 join-to-spec =
@@ -54,6 +51,6 @@ join-to-spec =
     free-proc-requires
     signed-requires
     returns-2
-    add-sleep-on
+    own-channel-requires
     sleep-on-requires
     returns-3)

@@ -1,17 +1,19 @@
-use Rattle.wakes.proofs.WakeLaws.{sweep-none, sweep-next, sweep-queued, reparent-all}
+use Rattle.wakes.proofs.WakeLaws.{sweep-none, sweep-four, one-queued, reparent-all}
 use mathlib.Core.Path.{_≡_}
 use Rattle.words.specs.Reading.{tableOf}
 use Rattle.promises.specs.Order.Chains.{onCore}
 use native.Mathlib.Omega.{arith}
 use Rattle.rules.specs.Sizes.{slotCount}
-use Prim.Native.Nat.{_≤_, _+_, _*_, _-_}
+use Prim.Native.Nat.{_≤_, _*_, _-_}
 use Rattle.rules.specs.Moves.{sweep, handOver}
+use Rattle.promises.specs.Order.Sound.{Queued}
 use Rattle.promises.specs.Order.QueuedKept.{handOver-queued}
+use borrow.Author.Needs.{needs}
 use Rattle.wakes.proofs.reparent.Statement.{statement}
 use Rattle.wakes.proofs.reparent.Tie as tie
 
 abbrev Inv-loop : tie.InvT-loop
-Inv-loop t₀ s init b₀ t b = (4 * b ≤ slotCount) × (tableOf t ≡ onCore (sweep (handOver init s) (4 * b)) (tableOf t₀))
+Inv-loop t₀ s init b₀ t b = (4 * b ≤ slotCount) × (tableOf t ≡ onCore (sweep (handOver init s) (4 * b)) (tableOf t₀)) × Queued (tableOf t .core)
 
 abbrev μ-loop : tie.MeasureT-loop
 μ-loop t₀ s init b₀ t b = slotCount - b
@@ -21,55 +23,38 @@ init-requires c κs = tt
 
 loop-holds : tie.Need-loop-holds Inv-loop μ-loop
 unfolding slotCount
-loop-holds c = (omega arith, sweep-none _ _)
+loop-holds c = (omega arith, sweep-none _ _, c .before .before .pre)
 
-mul-hand-over : tie.Need-mul-hand-over Inv-loop μ-loop
-unfolding slotCount
-mul-hand-over c = omega arith
+mul-i : tie.Need-mul-i Inv-loop μ-loop
+mul-i c = search needs
 
 hand-over-requires : tie.Need-hand-over-requires Inv-loop μ-loop
 unfolding slotCount
-hand-over-requires c κs = (omega arith, c .before .before .before .init .ensures .1, sweep-queued _ (handOver-queued _ _) _ _ (c .before .before .loop .inv .1) (c .before .before .before .before .before .pre))
-
-mul-hand-over-2 : tie.Need-mul-hand-over-2 Inv-loop μ-loop
-unfolding slotCount
-mul-hand-over-2 c = omega arith
+hand-over-requires c κs = (omega arith, c .before .before .before .init .ensures .1, c .before .before .loop .inv .2)
 
 add-hand-over : tie.Need-add-hand-over Inv-loop μ-loop
-unfolding slotCount
-add-hand-over c = omega arith
+add-hand-over c = search needs
 
 hand-over-requires-2 : tie.Need-hand-over-requires-2 Inv-loop μ-loop
 unfolding slotCount
-hand-over-requires-2 c κs = (omega arith, c .before .before .before .before .before .init .ensures .1, sweep-queued _ (handOver-queued _ _) _ _ (sweep-next _ _ (4 * c .before .before .before .before .loop .b) (4 * c .before .before .before .before .loop .b + 1) (omega arith) (c .before .hand-over .ensures) (c .before .before .before .before .loop .inv .1)) (c .before .before .before .before .before .before .before .pre))
-
-mul-hand-over-3 : tie.Need-mul-hand-over-3 Inv-loop μ-loop
-unfolding slotCount
-mul-hand-over-3 c = omega arith
+hand-over-requires-2 c κs = (omega arith, c .before .before .before .before .before .init .ensures .1, one-queued (handOver-queued _ _) _ _ (c .before .hand-over .ensures) (c .before .before .before .before .loop .inv .2))
 
 add-hand-over-2 : tie.Need-add-hand-over-2 Inv-loop μ-loop
-unfolding slotCount
-add-hand-over-2 c = omega arith
+add-hand-over-2 c = search needs
 
 hand-over-requires-3 : tie.Need-hand-over-requires-3 Inv-loop μ-loop
 unfolding slotCount
-hand-over-requires-3 c κs = (omega arith, c .before .before .before .before .before .before .before .init .ensures .1, sweep-queued _ (handOver-queued _ _) _ _ (sweep-next _ _ (4 * c .before .before .before .before .before .before .loop .b + 1) (4 * c .before .before .before .before .before .before .loop .b + 2) (omega arith) (c .before .hand-over2 .ensures) (sweep-next _ _ (4 * c .before .before .before .before .before .before .loop .b) (4 * c .before .before .before .before .before .before .loop .b + 1) (omega arith) (c .before .before .before .hand-over .ensures) (c .before .before .before .before .before .before .loop .inv .1))) (c .before .before .before .before .before .before .before .before .before .pre))
-
-mul-hand-over-4 : tie.Need-mul-hand-over-4 Inv-loop μ-loop
-unfolding slotCount
-mul-hand-over-4 c = omega arith
+hand-over-requires-3 c κs = (omega arith, c .before .before .before .before .before .before .before .init .ensures .1, one-queued (handOver-queued _ _) _ _ (c .before .hand-over2 .ensures) (one-queued (handOver-queued _ _) _ _ (c .before .before .before .hand-over .ensures) (c .before .before .before .before .before .before .loop .inv .2)))
 
 add-hand-over-3 : tie.Need-add-hand-over-3 Inv-loop μ-loop
-unfolding slotCount
-add-hand-over-3 c = omega arith
+add-hand-over-3 c = search needs
 
 hand-over-requires-4 : tie.Need-hand-over-requires-4 Inv-loop μ-loop
 unfolding slotCount
-hand-over-requires-4 c κs = (omega arith, c .before .before .before .before .before .before .before .before .before .init .ensures .1, sweep-queued _ (handOver-queued _ _) _ _ (sweep-next _ _ (4 * c .before .before .before .before .before .before .before .before .loop .b + 2) (4 * c .before .before .before .before .before .before .before .before .loop .b + 3) (omega arith) (c .before .hand-over3 .ensures) (sweep-next _ _ (4 * c .before .before .before .before .before .before .before .before .loop .b + 1) (4 * c .before .before .before .before .before .before .before .before .loop .b + 2) (omega arith) (c .before .before .before .hand-over2 .ensures) (sweep-next _ _ (4 * c .before .before .before .before .before .before .before .before .loop .b) (4 * c .before .before .before .before .before .before .before .before .loop .b + 1) (omega arith) (c .before .before .before .before .before .hand-over .ensures) (c .before .before .before .before .before .before .before .before .loop .inv .1)))) (c .before .before .before .before .before .before .before .before .before .before .before .pre))
+hand-over-requires-4 c κs = (omega arith, c .before .before .before .before .before .before .before .before .before .init .ensures .1, one-queued (handOver-queued _ _) _ _ (c .before .hand-over3 .ensures) (one-queued (handOver-queued _ _) _ _ (c .before .before .before .hand-over2 .ensures) (one-queued (handOver-queued _ _) _ _ (c .before .before .before .before .before .hand-over .ensures) (c .before .before .before .before .before .before .before .before .loop .inv .2))))
 
 add-b : tie.Need-add-b Inv-loop μ-loop
-unfolding slotCount
-add-b c = omega arith
+add-b c = search needs
 
 loop-less : tie.Need-loop-less Inv-loop μ-loop
 unfolding slotCount
@@ -77,7 +62,11 @@ loop-less c = omega arith
 
 loop-again : tie.Need-loop-again Inv-loop μ-loop
 unfolding slotCount
-loop-again c = (omega arith, (sweep-next _ _ (4 * c .before .before .before .before .before .before .before .before .before .loop .b + 3) (4 * (c .before .before .before .before .before .before .before .before .before .loop .b + 1)) (omega arith) (c .hand-over4 .ensures) (sweep-next _ _ (4 * c .before .before .before .before .before .before .before .before .before .loop .b + 2) (4 * c .before .before .before .before .before .before .before .before .before .loop .b + 3) (omega arith) (c .before .before .hand-over3 .ensures) (sweep-next _ _ (4 * c .before .before .before .before .before .before .before .before .before .loop .b + 1) (4 * c .before .before .before .before .before .before .before .before .before .loop .b + 2) (omega arith) (c .before .before .before .before .hand-over2 .ensures) (sweep-next _ _ (4 * c .before .before .before .before .before .before .before .before .before .loop .b) (4 * c .before .before .before .before .before .before .before .before .before .loop .b + 1) (omega arith) (c .before .before .before .before .before .before .hand-over .ensures) (c .before .before .before .before .before .before .before .before .before .loop .inv .1))))))
+loop-again c = (
+  omega arith,
+  sweep-four _ _ (4 * c .before .before .before .before .before .before .before .before .before .loop .b) _ (omega arith) (c .before .before .before .before .before .before .hand-over .ensures) (c .before .before .before .before .hand-over2 .ensures) (c .before .before .hand-over3 .ensures) (c .hand-over4 .ensures) (c .before .before .before .before .before .before .before .before .before .loop .inv .1),
+  one-queued (handOver-queued _ _) _ _ (c .hand-over4 .ensures) (one-queued (handOver-queued _ _) _ _ (c .before .before .hand-over3 .ensures) (one-queued (handOver-queued _ _) _ _ (c .before .before .before .before .hand-over2 .ensures) (one-queued (handOver-queued _ _) _ _ (c .before .before .before .before .before .before .hand-over .ensures) (c .before .before .before .before .before .before .before .before .before .loop .inv .2)))),
+)
 
 returns : tie.Need-returns Inv-loop μ-loop
 unfolding slotCount
@@ -85,25 +74,4 @@ returns c = let e : 4 * c .before .loop .b ≡ slotCount = omega arith in
     reparent-all _ (tableOf (c .before .before .before .before .args .t .now)) _ (c .before .before .init .ensures .0) (rw e at (c .before .loop .inv .1))
 
 pub reparent-spec : {M : Type 1} → statement M
-reparent-spec =
-    tie.close
-    (tie.spec
-    Inv-loop
-    μ-loop
-    init-requires
-    loop-holds
-    mul-hand-over
-    hand-over-requires
-    mul-hand-over-2
-    add-hand-over
-    hand-over-requires-2
-    mul-hand-over-3
-    add-hand-over-2
-    hand-over-requires-3
-    mul-hand-over-4
-    add-hand-over-3
-    hand-over-requires-4
-    add-b
-    loop-less
-    loop-again
-    returns)
+reparent-spec = tie.close (tie.spec Inv-loop μ-loop init-requires loop-holds mul-i hand-over-requires add-hand-over hand-over-requires-2 add-hand-over-2 hand-over-requires-3 add-hand-over-3 hand-over-requires-4 add-b loop-less loop-again returns)

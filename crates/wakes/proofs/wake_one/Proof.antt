@@ -13,19 +13,17 @@ is-requires : tie.Need-is-requires
 is-requires c κs = search needs
 
 make-runnable-requires : tie.Need-make-runnable-requires
-make-runnable-requires c κs = (c .before .before .before .before .before .before .before .before .pre .0, room-asleep _ (c .before .before .before .before .before .before .before .before .args .i) (c .before .before .before .before .before .before .before .before .pre .1) (sym (c .before .before .is .ensures) ∙ c .before .if2 .taken))
+make-runnable-requires c κs = (c .before .before .before .before .before .before .before .before .pre .0, room-asleep _ (c .before .before .before .before .before .before .before .before .args .i) (c .before .before .before .before .before .before .before .before .pre .1) (sym (c .before .before .before .before .before .before .is .ensures) ∙ c .before .before .before .before .before .if1 .taken))
 
 returns : tie.Need-returns
-returns c = c .make-runnable .ensures ∙ wake-this (c .before .before .before .before .before .before .before .before .before .args .channel) (c .before .before .before .before .before .before .before .before .before .args .i) (tableOf (c .before .before .before .before .before .before .before .before .before .args .t .now)) (sym (c .before .before .before .is .ensures) ∙ c .before .before .if2 .taken)
-    (ap (λ (m : ProcMeta). m .channel) (sym (c .before .before .before .before .before .before .before .meta-at .ensures)) ∙ c .before .before .before .before .before .if1 .taken)
+returns c = c .make-runnable .ensures ∙ wake-this (c .before .before .before .before .before .before .before .before .before .args .channel) (c .before .before .before .before .before .before .before .before .before .args .i) (tableOf (c .before .before .before .before .before .before .before .before .before .args .t .now)) (sym (c .before .before .before .before .before .before .before .is .ensures) ∙ c .before .before .before .before .before .before .if1 .taken)
+    (ap (λ (m : ProcMeta). m .channel) (sym (c .before .before .before .before .meta-at .ensures)) ∙ c .before .before .if2 .taken)
 
 returns-2 : tie.Need-returns-2
-returns-2 c = wake-awake (c .before .before .before .before .before .before .before .args .channel) (c .before .before .before .before .before .before .before .args .i) (tableOf (c .before .before .before .before .before .before .before .args .t .now)) (sym (c .before .is .ensures) ∙ c .if2 .left)
+returns-2 c = wake-other (c .before .before .before .before .before .before .before .args .channel) (c .before .before .before .before .before .before .before .args .i) (tableOf (c .before .before .before .before .before .before .before .args .t .now)) (λ e. c .if2 .left (ap (λ (m : ProcMeta). m .channel) (c .before .before .meta-at .ensures) ∙ e))
 
 returns-3 : tie.Need-returns-3
-returns-3 c = wake-other (c .before .before .before .before .args .channel) (c .before .before .before .before .args .i) (tableOf (c .before .before .before .before .args .t .now)) (λ e. c .if1 .left (ap (λ (m : ProcMeta). m .channel) (c .before .before .meta-at .ensures) ∙ e))
+returns-3 c = wake-awake (c .before .before .before .args .channel) (c .before .before .before .args .i) (tableOf (c .before .before .before .args .t .now)) (sym (c .before .is .ensures) ∙ c .if1 .left)
 
 pub wake-one-spec : {M : Type 1} → statement M
-wake-one-spec =
-    tie.close
-    (tie.spec meta-at-requires is-requires make-runnable-requires returns returns-2 returns-3)
+wake-one-spec = tie.close (tie.spec is-requires meta-at-requires make-runnable-requires returns returns-2 returns-3)

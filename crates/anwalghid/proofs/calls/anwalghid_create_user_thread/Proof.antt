@@ -1,16 +1,16 @@
 use borrow.Author.Tests.{lt-ltb, le-ltb}
 use Rattle.codes.specs.Codes.{isMapped}
-use Rattle.anwalghid.proofs.ExportLaws.{first-sound, not-one, answered, in-range, out-of-range}
+use Rattle.anwalghid.proofs.ExportLaws.{other-number, in-range, out-of-range, first-sound, answered, not-called}
 use borrow.Author.Needs.{needs}
 use Rattle.anwalghid.proofs.calls.anwalghid_create_user_thread.Statement.{statement}
 use Rattle.anwalghid.proofs.calls.anwalghid_create_user_thread.Tie as tie
 
 returns : tie.Need-returns
-returns c = not-one _ _ _ (c .before .pre) (c .if1 .taken)
+returns c = record { leaves = other-number _ _ _ (c .if1 .taken); sound = c .before .pre }
 
 returns-2 : tie.Need-returns-2
 unfolding isMapped
-returns-2 c = out-of-range _ _ _ _ (c .before .before .pre) (c .before .if1 .left) (le-ltb (c .before .before .args .mapped) 16 (c .if2 .taken))
+returns-2 c = rw (out-of-range _ _ (le-ltb (c .before .before .args .mapped) 16 (c .if2 .taken))) (not-called _ (c .before .if1 .left) _ (c .before .before .pre))
 
 index-1-create-user-thread : tie.Need-index-1-create-user-thread
 index-1-create-user-thread c = search needs
@@ -19,17 +19,17 @@ mapped-of-requires : tie.Need-mapped-of-requires
 mapped-of-requires c κs = search needs
 
 create-user-thread-requires : tie.Need-create-user-thread-requires
-create-user-thread-requires c κs = first-sound _ (c .before .before .before .before .pre) (c .before .before .before .if1 .left)
+create-user-thread-requires c κs = first-sound _ (c .before .before .before .if1 .left) (c .before .before .before .before .pre)
 
-write-requires : tie.Need-write-requires
-write-requires c κs = search needs
+words-of-requires : tie.Need-words-of-requires
+words-of-requires c κs = search needs
 
 same-length : tie.Need-same-length
 same-length c = search needs
 
 returns-3 : tie.Need-returns-3
 unfolding isMapped
-returns-3 c = in-range _ (lt-ltb (c .before .before .before .before .before .before .before .args .mapped) 16 (c .before .before .before .before .before .if2 .left)) (answered _ _ (c .before .before .before .before .before .before .if1 .left) (rw (c .before .before .before .mapped-of .ensures) at (c .before .before .create-user-thread .ensures)) (c .write .ensures))
+returns-3 c = rw (in-range _ _ (lt-ltb (c .before .before .before .before .before .before .args .mapped) 16 (c .before .before .before .before .if2 .left))) (answered _ (c .before .before .before .before .before .if1 .left) _ (rw (c .before .before .mapped-of .ensures) at (c .before .create-user-thread .ensures)) (c .words-of .ensures))
 
 pub anwalghid-create-user-thread-spec : {M : Type 1} → statement M
 anwalghid-create-user-thread-spec =
@@ -40,6 +40,6 @@ anwalghid-create-user-thread-spec =
     index-1-create-user-thread
     mapped-of-requires
     create-user-thread-requires
-    write-requires
+    words-of-requires
     same-length
     returns-3)

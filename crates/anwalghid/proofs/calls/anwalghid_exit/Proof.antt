@@ -1,26 +1,26 @@
-use Rattle.anwalghid.proofs.ExportLaws.{first-sound, not-one, answered}
+use Rattle.anwalghid.proofs.ExportLaws.{other-number, first-sound, answered}
 use borrow.Author.Needs.{needs}
 use Rattle.anwalghid.proofs.calls.anwalghid_exit.Statement.{statement}
 use Rattle.anwalghid.proofs.calls.anwalghid_exit.Tie as tie
 
 returns : tie.Need-returns
-returns c = not-one _ _ _ (c .before .pre) (c .if1 .taken)
+returns c = record { leaves = other-number _ _ _ (c .if1 .taken); sound = c .before .pre }
 
 index-1-exit : tie.Need-index-1-exit
 index-1-exit c = search needs
 
 exit-requires : tie.Need-exit-requires
-exit-requires c κs = first-sound _ (c .before .before .pre) (c .before .if1 .left)
+exit-requires c κs = first-sound _ (c .before .if1 .left) (c .before .before .pre)
 
-write-requires : tie.Need-write-requires
-write-requires c κs = search needs
+words-of-requires : tie.Need-words-of-requires
+words-of-requires c κs = search needs
 
 same-length : tie.Need-same-length
 same-length c = search needs
 
 returns-2 : tie.Need-returns-2
-returns-2 c = answered _ _ (c .before .before .before .before .if1 .left) (c .before .before .exit .ensures) (c .write .ensures)
+returns-2 c = answered _ (c .before .before .before .if1 .left) _ (c .before .exit .ensures) (c .words-of .ensures)
 
 pub anwalghid-exit-spec : {M : Type 1} → statement M
 anwalghid-exit-spec =
-    tie.close (tie.spec returns index-1-exit exit-requires write-requires same-length returns-2)
+    tie.close (tie.spec returns index-1-exit exit-requires words-of-requires same-length returns-2)

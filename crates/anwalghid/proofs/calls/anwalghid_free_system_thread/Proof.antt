@@ -1,25 +1,25 @@
-use Rattle.anwalghid.proofs.ExportLaws.{first-sound, not-one, answered}
+use Rattle.anwalghid.proofs.ExportLaws.{other-number, first-sound, answered}
 use borrow.Author.Needs.{needs}
 use Rattle.anwalghid.proofs.calls.anwalghid_free_system_thread.Statement.{statement}
 use Rattle.anwalghid.proofs.calls.anwalghid_free_system_thread.Tie as tie
 
 returns : tie.Need-returns
-returns c = not-one _ _ _ (c .before .pre) (c .if1 .taken)
+returns c = record { leaves = other-number _ _ _ (c .if1 .taken); sound = c .before .pre }
 
 index-1-free-system-thread : tie.Need-index-1-free-system-thread
 index-1-free-system-thread c = search needs
 
 free-system-thread-requires : tie.Need-free-system-thread-requires
-free-system-thread-requires c κs = first-sound _ (c .before .before .pre) (c .before .if1 .left)
+free-system-thread-requires c κs = first-sound _ (c .before .if1 .left) (c .before .before .pre)
 
-write-requires : tie.Need-write-requires
-write-requires c κs = search needs
+words-of-requires : tie.Need-words-of-requires
+words-of-requires c κs = search needs
 
 same-length : tie.Need-same-length
 same-length c = search needs
 
 returns-2 : tie.Need-returns-2
-returns-2 c = answered _ _ (c .before .before .before .before .if1 .left) (c .before .before .free-system-thread .ensures) (c .write .ensures)
+returns-2 c = answered _ (c .before .before .before .if1 .left) _ (c .before .free-system-thread .ensures) (c .words-of .ensures)
 
 pub anwalghid-free-system-thread-spec : {M : Type 1} → statement M
 anwalghid-free-system-thread-spec =
@@ -28,6 +28,6 @@ anwalghid-free-system-thread-spec =
     returns
     index-1-free-system-thread
     free-system-thread-requires
-    write-requires
+    words-of-requires
     same-length
     returns-2)

@@ -1,33 +1,33 @@
 use mir.Facts.{toZ-ofZ}
 use borrow.Author.Tests.{lt-ltb, le-ltb}
 use Rattle.codes.specs.Codes.{isFlag, yes}
-use Rattle.anwalghid.proofs.ExportLaws.{first-sound, not-one, answered, in-range, out-of-range}
+use Rattle.anwalghid.proofs.ExportLaws.{other-number, in-range, out-of-range, first-sound, answered, not-called}
 use borrow.Author.Needs.{needs}
 use Rattle.anwalghid.proofs.calls.anwalghid_grow_proc.Statement.{statement}
 use Rattle.anwalghid.proofs.calls.anwalghid_grow_proc.Tie as tie
 
 returns : tie.Need-returns
-returns c = not-one _ _ _ (c .before .pre) (c .if1 .taken)
+returns c = record { leaves = other-number _ _ _ (c .if1 .taken); sound = c .before .pre }
 
 returns-2 : tie.Need-returns-2
 unfolding isFlag
-returns-2 c = out-of-range _ _ _ _ (c .before .before .pre) (c .before .if1 .left) (le-ltb (c .before .before .args .memory) 2 (c .if2 .taken))
+returns-2 c = rw (out-of-range _ _ (le-ltb (c .before .before .args .memory) 2 (c .if2 .taken))) (not-called _ (c .before .if1 .left) _ (c .before .before .pre))
 
 index-1-grow-proc : tie.Need-index-1-grow-proc
 index-1-grow-proc c = search needs
 
 grow-proc-requires : tie.Need-grow-proc-requires
-grow-proc-requires c κs = first-sound _ (c .before .before .before .pre) (c .before .before .if1 .left)
+grow-proc-requires c κs = first-sound _ (c .before .before .if1 .left) (c .before .before .before .pre)
 
-write-requires : tie.Need-write-requires
-write-requires c κs = search needs
+words-of-requires : tie.Need-words-of-requires
+words-of-requires c κs = search needs
 
 same-length : tie.Need-same-length
 same-length c = search needs
 
 returns-3 : tie.Need-returns-3
 unfolding isFlag yes
-returns-3 c = in-range _ (lt-ltb (c .before .before .before .before .before .before .args .memory) 2 (c .before .before .before .before .if2 .left)) (answered _ _ (c .before .before .before .before .before .if1 .left) (rw (toZ-ofZ (c .before .before .before .before .before .before .fits .count)) at (c .before .before .grow-proc .ensures)) (c .write .ensures))
+returns-3 c = rw (in-range _ _ (lt-ltb (c .before .before .before .before .before .args .memory) 2 (c .before .before .before .if2 .left))) (answered _ (c .before .before .before .before .if1 .left) _ (rw (toZ-ofZ (c .before .before .before .before .before .fits .count)) at (c .before .grow-proc .ensures)) (c .words-of .ensures))
 
 pub anwalghid-grow-proc-spec : {M : Type 1} → statement M
 anwalghid-grow-proc-spec =
@@ -37,6 +37,6 @@ anwalghid-grow-proc-spec =
     returns-2
     index-1-grow-proc
     grow-proc-requires
-    write-requires
+    words-of-requires
     same-length
     returns-3)

@@ -1,25 +1,25 @@
-use Rattle.anwalghid.proofs.ExportLaws.{first-sound, not-one, answered}
+use Rattle.anwalghid.proofs.ExportLaws.{other-number, first-sound, answered}
 use borrow.Author.Needs.{needs}
 use Rattle.anwalghid.proofs.calls.anwalghid_start_init_process.Statement.{statement}
 use Rattle.anwalghid.proofs.calls.anwalghid_start_init_process.Tie as tie
 
 returns : tie.Need-returns
-returns c = not-one _ _ _ (c .before .pre) (c .if1 .taken)
+returns c = record { leaves = other-number _ _ _ (c .if1 .taken); sound = c .before .pre }
 
 index-1-start-init-process : tie.Need-index-1-start-init-process
 index-1-start-init-process c = search needs
 
 start-init-process-requires : tie.Need-start-init-process-requires
-start-init-process-requires c κs = first-sound _ (c .before .before .pre) (c .before .if1 .left)
+start-init-process-requires c κs = first-sound _ (c .before .if1 .left) (c .before .before .pre)
 
-write-requires : tie.Need-write-requires
-write-requires c κs = search needs
+words-of-requires : tie.Need-words-of-requires
+words-of-requires c κs = search needs
 
 same-length : tie.Need-same-length
 same-length c = search needs
 
 returns-2 : tie.Need-returns-2
-returns-2 c = answered _ _ (c .before .before .before .before .if1 .left) (c .before .before .start-init-process .ensures) (c .write .ensures)
+returns-2 c = answered _ (c .before .before .before .if1 .left) _ (c .before .start-init-process .ensures) (c .words-of .ensures)
 
 pub anwalghid-start-init-process-spec : {M : Type 1} → statement M
 anwalghid-start-init-process-spec =
@@ -28,6 +28,6 @@ anwalghid-start-init-process-spec =
     returns
     index-1-start-init-process
     start-init-process-requires
-    write-requires
+    words-of-requires
     same-length
     returns-2)

@@ -1,10 +1,11 @@
-use Rattle.anwalghid.proofs.TableLaws.{not-renewed, renewed-one}
+use native.Mathlib.Omega.{arith}
+use Rattle.anwalghid.proofs.ExportLaws.{other-number, renewed-one}
 use borrow.Author.Needs.{needs}
 use Rattle.anwalghid.proofs.tables.anwalghid_new.Statement.{statement}
 use Rattle.anwalghid.proofs.tables.anwalghid_new.Tie as tie
 
 returns : tie.Need-returns
-returns c = not-renewed _ (c .if1 .taken)
+returns c = record { leaves = other-number _ _ _ (c .if1 .taken); sound = λ e. absurd (omega (arith, e)) }
 
 index-1-renew : tie.Need-index-1-renew
 index-1-renew c = search needs
@@ -16,7 +17,7 @@ same-length : tie.Need-same-length
 same-length c = search needs
 
 returns-2 : tie.Need-returns-2
-returns-2 c = renewed-one _ _ (c .before .before .if1 .left) (c .renew .ensures)
+returns-2 c = renewed-one _ (c .before .before .if1 .left) _ (c .renew .ensures)
 
 pub anwalghid-new-spec : {M : Type 1} → statement M
 anwalghid-new-spec =

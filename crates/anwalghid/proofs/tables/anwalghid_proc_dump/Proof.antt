@@ -1,24 +1,37 @@
-use Rattle.anwalghid.proofs.TableLaws.{not-dumped, dumped-one}
+use mathlib.Core.Path.{ap, _∙_}
+use Rattle.sights.specs.Sights.{roomWords}
+use Rattle.anwalghid.specs.Exports.{listed}
+use Rattle.anwalghid.proofs.ExportLaws.{other-number, text-seen}
 use borrow.Author.Needs.{needs}
 use Rattle.anwalghid.proofs.tables.anwalghid_proc_dump.Statement.{statement}
 use Rattle.anwalghid.proofs.tables.anwalghid_proc_dump.Tie as tie
 
 returns : tie.Need-returns
-returns c = not-dumped _ _ _ (c .if1 .taken)
+returns c = record { leaves = other-number _ _ _ (c .if1 .taken) }
 
-shared-slice-element-dump-in : tie.Need-shared-slice-element-dump-in
-shared-slice-element-dump-in c = search needs
+shared-slice-element-dump-into : tie.Need-shared-slice-element-dump-into
+shared-slice-element-dump-into c = search needs
 
-dump-in-requires : tie.Need-dump-in-requires
-dump-in-requires c κs = search needs
+dump-into-requires : tie.Need-dump-into-requires
+dump-into-requires c κs = search needs
+
+room-words-requires : tie.Need-room-words-requires
+room-words-requires c κs = search needs
 
 same-length : tie.Need-same-length
 same-length c = search needs
 
 returns-2 : tie.Need-returns-2
-returns-2 c = dumped-one _ _ _ (c .before .before .before .before .before .before .if1 .left) (c .before .before .dump-in .ensures .0) (c .before .before .dump-in .ensures .1)
+unfolding listed
+returns-2 c = text-seen _ (c .before .before .before .before .before .before .if1 .left) _ (c .before .before .before .dump-into .ensures .1) (c .room-words .ensures ∙ ap roomWords (c .before .before .before .dump-into .ensures .0))
 
 pub anwalghid-proc-dump-spec : {M : Type 1} → statement M
 anwalghid-proc-dump-spec =
     tie.close
-    (tie.spec returns shared-slice-element-dump-in dump-in-requires same-length returns-2)
+    (tie.spec
+    returns
+    shared-slice-element-dump-into
+    dump-into-requires
+    room-words-requires
+    same-length
+    returns-2)

@@ -1,26 +1,37 @@
-use native.Mathlib.Omega.{arith}
-use Rattle.anwalghid.proofs.ExportLaws.{first-sound}
-use Rattle.anwalghid.proofs.TableLaws.{not-shown, shown-one}
+use mathlib.Core.Path.{ap, _∙_}
+use Rattle.sights.specs.Sights.{roomWords}
+use Rattle.anwalghid.specs.Exports.{shown}
+use Rattle.anwalghid.proofs.ExportLaws.{other-number, first-sound, text-seen}
 use borrow.Author.Needs.{needs}
 use Rattle.anwalghid.proofs.tables.anwalghid_show.Statement.{statement}
 use Rattle.anwalghid.proofs.tables.anwalghid_show.Tie as tie
 
 returns : tie.Need-returns
-returns c = not-shown _ _ _ (c .if1 .taken)
+returns c = record { leaves = other-number _ _ _ (c .if1 .taken) }
 
-shared-slice-element-show-in : tie.Need-shared-slice-element-show-in
-shared-slice-element-show-in c = search needs
+shared-slice-element-show-into : tie.Need-shared-slice-element-show-into
+shared-slice-element-show-into c = search needs
 
-show-in-requires : tie.Need-show-in-requires
-show-in-requires c κs = (first-sound _ (c .before .before .before .before .before .pre) (c .before .before .before .if1 .left), omega arith)
+show-into-requires : tie.Need-show-into-requires
+show-into-requires c κs = first-sound _ (c .before .before .if1 .left) (c .before .before .before .before .pre)
+
+room-words-requires : tie.Need-room-words-requires
+room-words-requires c κs = search needs
 
 same-length : tie.Need-same-length
 same-length c = search needs
 
 returns-2 : tie.Need-returns-2
-returns-2 c = shown-one _ _ _ (c .before .before .before .before .before .before .if1 .left) (c .before .before .show-in .ensures)
+unfolding shown
+returns-2 c = text-seen _ (c .before .before .before .before .before .before .if1 .left) _ (c .before .before .before .show-into .ensures .1) (c .room-words .ensures ∙ ap roomWords (c .before .before .before .show-into .ensures .0))
 
 pub anwalghid-show-spec : {M : Type 1} → statement M
 anwalghid-show-spec =
     tie.close
-    (tie.spec returns shared-slice-element-show-in show-in-requires same-length returns-2)
+    (tie.spec
+    returns
+    shared-slice-element-show-into
+    show-into-requires
+    room-words-requires
+    same-length
+    returns-2)

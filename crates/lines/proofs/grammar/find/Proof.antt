@@ -5,12 +5,12 @@ use Rattle.rules.specs.Listing.{bytes}
 use borrow.Author.Needs.{needs}
 use native.Mathlib.Omega.{arith}
 use Prim.Native.Nat.{ℕ}
-use mathlib.Core.List.{List, _∷_}
+use mathlib.Core.List.{List}
 use Rattle.lines.proofs.grammar.find.Statement.{statement}
 use Rattle.lines.proofs.grammar.find.Tie as tie
 
 abbrev names : List ℕ
-names = 32 ∷ bytes "boot start spawn system-return fork thread dispatch yield sleep wake kill wait join thread-exit exit grow list show fresh"
+names = bytes " boot start spawn system-return fork thread dispatch yield sleep wake kill wait join thread-exit exit grow list show fresh"
 
 abbrev Inv-loop : tie.InvT-loop
 Inv-loop w at₀ k₀ t7 t8 at k = Walk names w at k

@@ -14,8 +14,8 @@ flag-requires c κs = search needs
 wish-requires : tie.Need-wish-requires
 wish-requires c κs = search needs
 
-name-size-requires : tie.Need-name-size-requires
-name-size-requires c κs = search needs
+name-worth-requires : tie.Need-name-worth-requires
+name-worth-requires c κs = search needs
 
 number-requires : tie.Need-number-requires
 number-requires c κs = search needs
@@ -34,7 +34,7 @@ returns-3 c = c .wish .ensures ∙ rw (c .before .match .keys3)
 
 returns-4 : tie.Need-returns-4
 unfolding valueIn
-returns-4 c = c .name-size .ensures ∙ rw (c .before .match .keys4)
+returns-4 c = c .name-worth .ensures ∙ rw (c .before .match .keys4)
 
 returns-5 : tie.Need-returns-5
 unfolding valueIn
@@ -47,7 +47,7 @@ worth-spec =
     count-requires
     flag-requires
     wish-requires
-    name-size-requires
+    name-worth-requires
     number-requires
     returns
     returns-2

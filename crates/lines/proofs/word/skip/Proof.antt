@@ -1,4 +1,5 @@
-use Rattle.lines.proofs.WordLaws.{on, off, passes-on, passes-not, passes-all}
+use borrow.Author.Tests.{not-true, not-false}
+use Rattle.lines.proofs.WordLaws.{passes-on, passes-not, passes-all}
 use Rattle.lines.specs.Words.{front, spaceIs}
 use borrow.Author.Needs.{needs}
 use lib.ListN.{length, drop}
@@ -24,7 +25,7 @@ space-is-requires : tie.Need-space-is-requires Inv-loop μ-loop
 space-is-requires c κs = search needs
 
 returns : tie.Need-returns Inv-loop μ-loop
-returns c = (omega (arith, c .before .before .before .before .loop .inv .2, passes-not (spaceIs (c .before .before .before .before .before .before .args .spaces)) (c .before .before .before .before .before .before .args .l .now) (c .before .before .before .before .loop .j) (c .before .before .before .loop-test .taken) (sym (c .before .space-is .ensures) ∙ off _ (c .if1 .taken))), c .before .before .before .before .loop .inv .1)
+returns c = (omega (arith, c .before .before .before .before .loop .inv .2, passes-not (spaceIs (c .before .before .before .before .before .before .args .spaces)) (c .before .before .before .before .before .before .args .l .now) (c .before .before .before .before .loop .j) (c .before .before .before .loop-test .taken) (sym (c .before .space-is .ensures) ∙ not-true _ (c .if1 .taken))), c .before .before .before .before .loop .inv .1)
 
 add-j : tie.Need-add-j Inv-loop μ-loop
 add-j c = omega arith
@@ -33,7 +34,7 @@ loop-less : tie.Need-loop-less Inv-loop μ-loop
 loop-less c = omega arith
 
 loop-again : tie.Need-loop-again Inv-loop μ-loop
-loop-again c = (omega arith, omega arith, c .before .before .before .before .loop .inv .2 ∙ omega (arith, passes-on (spaceIs (c .before .before .before .before .before .before .args .spaces)) (c .before .before .before .before .before .before .args .l .now) (c .before .before .before .before .loop .j) (c .before .before .before .loop-test .taken) (sym (c .before .space-is .ensures) ∙ on _ (c .if1 .left))))
+loop-again c = (omega arith, omega arith, c .before .before .before .before .loop .inv .2 ∙ omega (arith, passes-on (spaceIs (c .before .before .before .before .before .before .args .spaces)) (c .before .before .before .before .before .before .args .l .now) (c .before .before .before .before .loop .j) (c .before .before .before .loop-test .taken) (sym (c .before .space-is .ensures) ∙ not-false _ (c .if1 .left))))
 
 returns-2 : tie.Need-returns-2 Inv-loop μ-loop
 returns-2 c = (omega (arith, c .before .loop .inv .2, passes-all (spaceIs (c .before .before .before .args .spaces)) (c .before .before .before .args .l .now) (c .before .loop .j) (c .loop-test .left)), c .before .loop .inv .1)

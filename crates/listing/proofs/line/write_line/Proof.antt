@@ -5,7 +5,7 @@ use mathlib.Core.List.{List, _++_}
 use lib.ListN.{length}
 use borrow.Author.Needs.{needs}
 use Rattle.words.specs.Reading.{tableOf, bytesOf}
-use Rattle.listing.specs.Lines.{pidText, stateLabelled, nameText, lineAt}
+use Rattle.listing.specs.Lines.{pidText, stateLabelled, nameLabelled, lineAt}
 use Rattle.buffers.proofs.TextLaws.{wrote-none, wrote-more, fits-next, three-first, three-next}
 use Rattle.listing.proofs.LineLaws.{used, line-none, line-here}
 use Rattle.listing.proofs.line.write_line.Statement.{statement}
@@ -18,7 +18,7 @@ abbrev stateOf : tie.After-start-at → List ℕ
 stateOf c = stateLabelled (c .before .before .before .meta-at .result .state)
 
 abbrev nameOf : tie.After-start-at → List ℕ
-nameOf c = nameText (bytesOf (c .start-at .result .name0) ++ bytesOf (c .start-at .result .name1))
+nameOf c = nameLabelled (bytesOf (c .start-at .result .name0) ++ bytesOf (c .start-at .result .name1))
 
 pieces : (c : tie.After-start-at) → lineAt (tableOf (c .before .before .before .before .before .args .t .now)) (c .before .before .before .before .before .args .s) ≡ pidOf c ++ stateOf c ++ nameOf c
 pieces c =

@@ -8,7 +8,7 @@ use borrow.Author.Needs.{needs}
 use Rattle.rules.specs.Listing.{bytes}
 use Rattle.words.specs.Reading.{bytesOf}
 use Rattle.labels.specs.Names.{nameShown}
-use Rattle.listing.specs.Lines.{nameText}
+use Rattle.listing.specs.Lines.{nameLabelled}
 use Rattle.buffers.proofs.TextLaws.{fits-next, three-next, wrote-more}
 use Rattle.listing.proofs.line.write_name.Statement.{statement}
 use Rattle.listing.proofs.line.write_name.Tie as tie
@@ -23,7 +23,7 @@ slice-aggregate-write : tie.Need-slice-aggregate-write
 slice-aggregate-write c = search needs
 
 write-requires : tie.Need-write-requires
-unfolding nameText bytes
+unfolding nameLabelled bytes
 write-requires c κs = omega (arith, c .before .before .before .before .before .pre)
 
 array-share-prefix-bytes : tie.Need-array-share-prefix-bytes
@@ -39,7 +39,7 @@ slice-aggregate-write-2 c =
     sym (length-take-le (n .result .len) (n .result .bytes) (omega (arith, n .ensures .1)))
 
 write-requires-2 : tie.Need-write-requires-2
-unfolding nameText bytes
+unfolding nameLabelled bytes
 write-requires-2 c κs =
     let d = c .before .before .before .before .before .before .before .before in
     let w = c .before .before .before .before .write in
@@ -49,7 +49,7 @@ slice-aggregate-write-3 : tie.Need-slice-aggregate-write-3
 slice-aggregate-write-3 c = search needs
 
 write-requires-3 : tie.Need-write-requires-3
-unfolding nameText bytes
+unfolding nameLabelled bytes
 write-requires-3 c κs =
     let d = c .before .before .before .before .before .before .before .before .before .before .before .before .before in
     let w = c .before .before .before .before .before .before .before .before .before .write in
@@ -60,7 +60,7 @@ same-length : tie.Need-same-length
 same-length c = search needs
 
 returns : tie.Need-returns
-unfolding nameText bytes
+unfolding nameLabelled bytes
 returns c =
     let d = c .before .before .before .before .before .before .before .before .before .before .before .before .before .before .before .before in
     let w = c .before .before .before .before .before .before .before .before .before .before .before .before .write in

@@ -1,4 +1,5 @@
 use Rattle.shows.specs.Shows.{nameText}
+use Rattle.rules.specs.Sizes.{nameSize}
 use Rattle.rules.specs.Listing.{bytes}
 use Rattle.buffers.proofs.TextLaws.{wrote-more}
 use borrow.Author.Needs.{needs}
@@ -12,19 +13,21 @@ slice-aggregate-write : tie.Need-slice-aggregate-write
 slice-aggregate-write c = search needs
 
 write-requires : tie.Need-write-requires
+unfolding nameSize
 write-requires c κs = search needs
 
 slice-aggregate-write-hex : tie.Need-slice-aggregate-write-hex
 slice-aggregate-write-hex c = search needs
 
 write-hex-requires : tie.Need-write-hex-requires
+unfolding nameSize
 write-hex-requires c κs = search needs
 
 same-length : tie.Need-same-length
 same-length c = search needs
 
 returns : tie.Need-returns
-unfolding nameText bytes
+unfolding nameText bytes nameSize
 returns c = (rw (c .before .before .before .before .before .before .before .before .before .before .unpack .ensures) at (wrote-more (c .before .before .before .before .before .before .before .write .ensures) (c .before .before .write-hex .ensures .0)), search needs)
 
 pub write-name-spec : {M : Type 1} → statement M

@@ -10,8 +10,8 @@ put-cell-requires : tie.Need-put-cell-requires
 put-cell-requires c κs = search needs
 
 returns : tie.Need-returns
-returns c = rw (c .put-cell .ensures .0)
-    (set-init-law (c .before .before .before .args .t .now) (c .put-cell .ensures .1) _ (c .before .before .before .args .p) (c .before .parent-word .ensures))
+returns c = rw (c .put-cell .ensures .0, c .before .parent-word .ensures)
+    (set-init-law (c .before .before .before .args .t .now) (c .put-cell .ensures .1) (c .before .before .before .args .p) (c .before .before .before .pre))
 
 pub set-init-spec : {M : Type 1} → statement M
 set-init-spec = tie.close (tie.spec parent-word-requires put-cell-requires returns)

@@ -28,9 +28,16 @@ put-requires-4 : tie.Need-put-requires-4
 put-requires-4 c κs = search needs
 
 returns : tie.Need-returns
-returns c = rw (c .put4 .ensures .0, c .before .before .before .put3 .ensures .0, c .before .before .before .before .before .before .put2 .ensures .0, c .before .before .before .before .before .before .before .before .before .put .ensures .0)
-    (set-kin-law (c .before .before .before .before .before .before .before .before .before .before .before .before .args .t .now) (c .before .before .before .before .before .before .before .before .before .before .before .before .args .s) (c .before .before .before .before .before .before .before .before .before .before .before .before .pre .0) (c .before .before .before .before .before .before .before .before .before .put .ensures .1) (c .before .before .before .before .before .before .before .before .before .before .before .before .args .k) _ _ _ _
-    (c .before .before .before .before .before .before .before .before .before .before .member-word .ensures) (c .before .before .before .before .before .before .before .parent-word .ensures) (c .before .before .before .before .flag-word .ensures) (c .before .flag-word2 .ensures))
+returns c = let a = c .before .before .before .before .before .before .before .before .before .before .before .before in rw (
+  c .put4 .ensures .0,
+  c .before .flag-word2 .ensures,
+  c .before .before .before .put3 .ensures .0,
+  c .before .before .before .before .flag-word .ensures,
+  c .before .before .before .before .before .before .put2 .ensures .0,
+  c .before .before .before .before .before .before .before .parent-word .ensures,
+  c .before .before .before .before .before .before .before .before .before .put .ensures .0,
+  c .before .before .before .before .before .before .before .before .before .before .member-word .ensures,
+) (set-kin-law (a .args .t .now) (a .args .s) (a .pre .0) (c .before .before .before .before .before .before .before .before .before .put .ensures .1) (a .args .k) (a .pre .1) (a .pre .2))
 
 pub set-kin-spec : {M : Type 1} → statement M
 set-kin-spec =

@@ -31,9 +31,16 @@ put-requires-6 : tie.Need-put-requires-6
 put-requires-6 c κs = search needs
 
 returns : tie.Need-returns
-returns c = rw (c .put6 .ensures .0, c .before .before .before .put5 .ensures .0, c .before .before .before .before .before .put4 .ensures .0, c .before .before .before .before .before .before .before .put3 .ensures .0, c .before .before .before .before .before .before .before .before .before .before .put2 .ensures .0, c .before .before .before .before .before .before .before .before .before .before .before .before .put .ensures .0)
-    (set-meta-law (c .before .before .before .before .before .before .before .before .before .before .before .before .before .before .before .before .args .t .now) (c .before .before .before .before .before .before .before .before .before .before .before .before .before .before .before .before .args .s) (c .before .before .before .before .before .before .before .before .before .before .before .before .before .before .before .before .pre) (c .before .before .before .before .before .before .before .before .before .before .before .before .put .ensures .1) (c .before .before .before .before .before .before .before .before .before .before .before .before .before .before .before .before .args .m) _ _ _
-    (c .before .before .before .before .before .before .before .before .before .before .before .before .before .state-code .ensures .1) (c .before .before .before .before .before .before .before .before .flag-word .ensures) (c .before .flag-word2 .ensures))
+returns c = let a = c .before .before .before .before .before .before .before .before .before .before .before .before .before .before .before .before in rw (
+  c .put6 .ensures .0,
+  c .before .flag-word2 .ensures,
+  c .before .before .before .put5 .ensures .0,
+  c .before .before .before .before .before .put4 .ensures .0,
+  c .before .before .before .before .before .before .before .put3 .ensures .0,
+  c .before .before .before .before .before .before .before .before .flag-word .ensures,
+  c .before .before .before .before .before .before .before .before .before .before .put2 .ensures .0,
+  c .before .before .before .before .before .before .before .before .before .before .before .before .put .ensures .0,
+) (set-meta-law (a .args .t .now) (a .args .s) (a .pre) (c .before .before .before .before .before .before .before .before .before .before .before .before .put .ensures .1) (a .args .m) _ (c .before .before .before .before .before .before .before .before .before .before .before .before .before .state-code .ensures .1))
 
 pub set-meta-spec : {M : Type 1} → statement M
 set-meta-spec =

@@ -1,17 +1,10 @@
 use native.Mathlib.Omega.{arith}
-use Prim.Native.Nat.{_<_}
-use mathlib.Core.Path.{sym, _∙_, subst}
+use mathlib.Core.Path.{subst}
 use Rattle.rules.specs.Sizes.{slotCount, groupCount}
 use Rattle.words.specs.Reading.{InGroups}
-use Rattle.words.proofs.Fresh.{member-back}
 use borrow.Author.Needs.{needs}
 use Rattle.words.proofs.word.member_word.Statement.{statement}
 use Rattle.words.proofs.word.member_word.Tie as tie
-use Rattle.words.proofs.word.member_word.Reads as reads
-use Rattle.words.proofs.word.member_word.Lts as lts
-
-bound : (c : lts.After-known-told reads.Pre reads.Post) → c .before .m .given .0 .0 < groupCount
-bound c = subst InGroups (c .before .m .given .1) (c .before .before .before .pre)
 
 enum-told : tie.Need-enum-told
 enum-told c = search needs
@@ -21,13 +14,13 @@ enum-known-m c = search needs
 
 add-result : tie.Need-add-result
 unfolding slotCount groupCount
-add-result c = omega (arith, bound c)
+add-result c = omega (arith, subst InGroups (c .before .m .given .1) (c .before .before .before .pre))
 
 returns : tie.Need-returns
 returns c = search needs
 
 returns-2 : tie.Need-returns-2
-returns-2 c = member-back (c .before .m .given .0 .0) (bound c) ∙ sym (c .before .m .given .1)
+returns-2 c = rw (c .before .m .given .1)
 
 pub member-word-spec : {M : Type 1} → statement M
 member-word-spec = tie.close (tie.spec enum-told enum-known-m add-result returns returns-2)
