@@ -8,13 +8,13 @@ usage: attack/run.py [CRATE...]   try the edits of these crates, or of all; say 
 An edit stands in crates/CRATE/must-fail, where the gate tries it too, or in attack/edits/CRATE. Its first line says
 the wrong answer, and a line 'of: FUNCTION' whose contract rules it out. In attack/edits an old or new text may have
 several lines, and an edit may change a proof too, or give a whole one (whole: FILE, and then its lines as new texts),
-where a fact that stays true has to be shown in another way.
+where a fact that stays true has to be shown in another way. WORKERS=N in the environment tries N crates at a time, not 2.
 """
 import glob, os, queue, re, shutil, subprocess, sys, tempfile, threading
 
 ROOT = os.path.dirname(os.path.dirname(os.path.abspath(__file__)))
 TABLE = ("<!-- wrong answers: attack/run.py --table -->\n", "<!-- end of wrong answers -->\n")
-WORKERS = 2
+WORKERS = int(os.environ.get("WORKERS", "2"))
 
 
 def stop(text):
