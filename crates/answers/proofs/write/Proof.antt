@@ -60,47 +60,69 @@ same-length c = search needs
 
 returns : tie.Need-returns
 unfolding coded valuesOf wordOf
-returns c = by-answer (c .before .before .before .before .before .before .before .args .b .now) (c .before .before .before .before .before .before .before .args .at) {a = c .before .before .before .before .before .before .before .args .a} Done (cc) (c .before .before .put .ensures)
+returns c =
+    let entry = c .before .before .before .before .before .before .before in
+    by-answer (entry .args .b .now) (entry .args .at) {a = entry .args .a} Done (cc) (c .before .before .put .ensures)
 
 same-length-2 : tie.Need-same-length-2
 same-length-2 c = search needs
 
 returns-2 : tie.Need-returns-2
 unfolding coded valuesOf wordOf
-returns-2 c = by-answer (c .before .before .before .before .before .before .before .before .args .b .now) (c .before .before .before .before .before .before .before .before .args .at) _ (c .before .before .before .before .before .a .given .1) (c .before .before .put2 .ensures)
+returns-2 c =
+    let entry = c .before .before .before .before .before .before .before .before in
+    let a = c .before .before .before .before .before .a in
+    by-answer (entry .args .b .now) (entry .args .at) _ (a .given .1) (c .before .before .put2 .ensures)
 
 same-length-3 : tie.Need-same-length-3
 same-length-3 c = search needs
 
 returns-3 : tie.Need-returns-3
 unfolding coded valuesOf wordOf
-returns-3 c = by-answer (c .before .before .before .before .before .before .before .before .args .b .now) (c .before .before .before .before .before .before .before .before .args .at) _ (c .before .before .before .before .before .a2 .given .1) (c .before .before .put3 .ensures)
+returns-3 c =
+    let entry = c .before .before .before .before .before .before .before .before in
+    let a2 = c .before .before .before .before .before .a2 in
+    by-answer (entry .args .b .now) (entry .args .at) _ (a2 .given .1) (c .before .before .put3 .ensures)
 
 same-length-4 : tie.Need-same-length-4
 same-length-4 c = search needs
 
 returns-4 : tie.Need-returns-4
 unfolding coded valuesOf wordOf
-returns-4 c = by-answer (c .before .before .before .before .before .before .before .before .args .b .now) (c .before .before .before .before .before .before .before .before .args .at) _ (c .before .before .before .before .before .a3 .given .1) (c .before .before .put4 .ensures)
+returns-4 c =
+    let entry = c .before .before .before .before .before .before .before .before in
+    let a3 = c .before .before .before .before .before .a3 in
+    by-answer (entry .args .b .now) (entry .args .at) _ (a3 .given .1) (c .before .before .put4 .ensures)
 
 same-length-5 : tie.Need-same-length-5
 same-length-5 c = search needs
 
 returns-5 : tie.Need-returns-5
-returns-5 c = joined-words (c .before .before .before .before .before .before .before .before .before .args .b .now) (c .before .before .before .before .before .before .before .before .before .args .at) (c .before .before .before .before .before .before .a4 .given .1) (c .before .before .before .word-of .ensures) (toZ-ofZ (record { sfits = c .before .before .before .before .before .known-told4 .given .0 .1 })) (c .before .before .put5 .ensures)
+returns-5 c =
+    let entry = c .before .before .before .before .before .before .before .before .before in
+    let a4 = c .before .before .before .before .before .before .a4 in
+    let known-told4 = c .before .before .before .before .before .known-told4 in
+    let word-of = c .before .before .before .word-of in
+    joined-words (entry .args .b .now) (entry .args .at) (a4 .given .1) (word-of .ensures) (toZ-ofZ (record { sfits = known-told4 .given .0 .1 })) (c .before .before .put5 .ensures)
 
 same-length-6 : tie.Need-same-length-6
 same-length-6 c = search needs
 
 returns-6 : tie.Need-returns-6
 unfolding coded valuesOf wordOf
-returns-6 c = by-answer (c .before .before .before .before .before .before .before .args .b .now) (c .before .before .before .before .before .before .before .args .at) {a = c .before .before .before .before .before .before .before .args .a} Blocked (cc) (c .before .before .put6 .ensures)
+returns-6 c =
+    let entry = c .before .before .before .before .before .before .before in
+    by-answer (entry .args .b .now) (entry .args .at) {a = entry .args .a} Blocked (cc) (c .before .before .put6 .ensures)
 
 same-length-7 : tie.Need-same-length-7
 same-length-7 c = search needs
 
 returns-7 : tie.Need-returns-7
-returns-7 c = refused-words (c .before .before .before .before .before .before .before .before .before .args .b .now) (c .before .before .before .before .before .before .before .before .before .args .at) (c .before .before .before .before .before .before .a5 .given .1) (c .before .before .before .number-of .ensures) (c .before .before .put7 .ensures)
+returns-7 c =
+    let entry = c .before .before .before .before .before .before .before .before .before in
+    let a5 = c .before .before .before .before .before .before .a5 in
+    let number-of = c .before .before .before .number-of in
+    refused-words (entry .args .b .now) (entry .args .at) (a5 .given .1) (number-of .ensures) (c .before .before .put7 .ensures)
 
 pub write-spec : {M : Type 1} → statement M
 write-spec =

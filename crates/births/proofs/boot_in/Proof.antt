@@ -38,9 +38,16 @@ set-init-requires c κs = search needs
 
 returns : tie.Need-returns
 unfolding initName bytes
-returns c = let a = c .before .before .before .before .before .before .before .before .before .before .before .before .before .args in
-    init-law (tableOf (a .t .now)) (a .s) _ (c .before .before .before .before .before .before .before .before .before .new-group .result) (c .before .before .before .before .before .before .user-sp .result) (c .before .before .before .before .before .before .before .pack .result .low) (c .before .before .before .before .before .before .before .pack .result .high) (c .before .before .before .before .before .before .before .before .before .before .before .pids .ensures) (c .before .before .before .before .before .before .before .before .before .new-group .ensures .0) (c .before .before .before .before .before .before .user-sp .ensures) (c .before .before .before .before .before .before .before .pack .ensures)
-    (c .set-init .ensures ∙ ap (onBooks (withInit _)) (c .before .before .set-group .ensures ∙ ap (onBooks (setGroup _ _)) (c .before .before .before .before .fill .ensures)))
+returns c =
+    let entry = c .before .before .before .before .before .before .before .before .before .before .before .before .before in
+    let pids = c .before .before .before .before .before .before .before .before .before .before .before .pids in
+    let new-group = c .before .before .before .before .before .before .before .before .before .new-group in
+    let pack = c .before .before .before .before .before .before .before .pack in
+    let user-sp = c .before .before .before .before .before .before .user-sp in
+    let fill = c .before .before .before .before .fill in
+    let a = entry .args in
+    init-law (tableOf (a .t .now)) (a .s) _ (new-group .result) (user-sp .result) (pack .result .low) (pack .result .high) (pids .ensures) (new-group .ensures .0) (user-sp .ensures) (pack .ensures)
+    (c .set-init .ensures ∙ ap (onBooks (withInit _)) (c .before .before .set-group .ensures ∙ ap (onBooks (setGroup _ _)) (fill .ensures)))
 
 pub boot-in-spec : {M : Type 1} → statement M
 boot-in-spec =

@@ -22,10 +22,17 @@ fill-requires c κs = search needs
 
 make-runnable-requires : tie.Need-make-runnable-requires
 unfolding fill change onCore
-make-runnable-requires c κs = (c .before .before .before .before .before .before .before .before .pre .0, rw (c .before .fill .ensures) (c .before .before .before .before .before .before .before .before .pre .1))
+make-runnable-requires c κs =
+    let entry = c .before .before .before .before .before .before .before .before in
+    (entry .pre .0, rw (c .before .fill .ensures) (entry .pre .1))
 
 returns : tie.Need-returns
-returns c = system-law (tableOf (c .before .before .before .before .before .before .before .before .before .args .t .now)) (c .before .before .before .before .before .before .before .before .before .args .name .now) (c .before .before .before .before .before .before .before .before .before .args .entry) (c .before .before .before .before .before .before .before .before .before .args .s) _ (c .before .before .before .before .system-sp .result) (c .before .before .before .before .before .pack .result .low) (c .before .before .before .before .before .pack .result .high) (c .before .before .before .before .before .before .pids .ensures) (c .before .before .before .before .system-sp .ensures) (c .before .before .before .before .before .pack .ensures)
+returns c =
+    let entry = c .before .before .before .before .before .before .before .before .before in
+    let pids = c .before .before .before .before .before .before .pids in
+    let pack = c .before .before .before .before .before .pack in
+    let system-sp = c .before .before .before .before .system-sp in
+    system-law (tableOf (entry .args .t .now)) (entry .args .name .now) (entry .args .entry) (entry .args .s) _ (system-sp .result) (pack .result .low) (pack .result .high) (pids .ensures) (system-sp .ensures) (pack .ensures)
     (c .make-runnable .ensures ∙ ap (onCore (publish _)) (c .before .before .fill .ensures))
 
 pub spawn-in-spec : {M : Type 1} → statement M

@@ -12,7 +12,9 @@ use Rattle.births.proofs.spawn_system_thread.Tie as tie
 
 returns : tie.Need-returns
 unfolding nameSize
-returns c = did (c .before .before .pre) (spawn-long (tableOf (c .before .before .args .t .now)) (c .before .before .args .name .now) _ (omega arith))
+returns c =
+    let entry = c .before .before in
+    did (entry .pre) (spawn-long (tableOf (entry .args .t .now)) (entry .args .name .now) _ (omega arith))
 
 alloc-proc-requires : tie.Need-alloc-proc-requires
 alloc-proc-requires c κs = search needs
@@ -24,15 +26,26 @@ enum-known-s : tie.Need-enum-known-s
 enum-known-s c = search needs
 
 spawn-in-requires : tie.Need-spawn-in-requires
-spawn-in-requires c κs = ((subst InSlots (c .before .before .s .given .1) (c .before .before .before .before .alloc-proc .ensures .2)), taken-room (tableOf (c .before .before .before .before .before .before .before .before .args .t .now)) (c .before .before .before .before .before .before .before .before .pre) (subst InSlots (c .before .before .s .given .1) (c .before .before .before .before .alloc-proc .ensures .2)) (sym (c .before .before .s .given .1) ∙ c .before .before .before .before .alloc-proc .ensures .0) (c .before .before .before .before .alloc-proc .ensures .1))
+spawn-in-requires c κs =
+    let entry = c .before .before .before .before .before .before .before .before in
+    let alloc-proc = c .before .before .before .before .alloc-proc in
+    let s = c .before .before .s in
+    ((subst InSlots (s .given .1) (alloc-proc .ensures .2)), taken-room (tableOf (entry .args .t .now)) (entry .pre) (subst InSlots (s .given .1) (alloc-proc .ensures .2)) (sym (s .given .1) ∙ alloc-proc .ensures .0) (alloc-proc .ensures .1))
 
 returns-2 : tie.Need-returns-2
 unfolding nameSize
-returns-2 c = did (c .before .before .before .before .before .before .before .pre) (spawn-no (tableOf (c .before .before .before .before .before .before .before .args .t .now)) (c .before .before .before .before .before .before .before .args .name .now) _ (omega arith) (sym (c .before .n .given .1) ∙ c .before .before .before .alloc-proc .ensures .0) (c .before .before .before .alloc-proc .ensures .1))
+returns-2 c =
+    let entry = c .before .before .before .before .before .before .before in
+    let alloc-proc = c .before .before .before .alloc-proc in
+    did (entry .pre) (spawn-no (tableOf (entry .args .t .now)) (entry .args .name .now) _ (omega arith) (sym (c .before .n .given .1) ∙ alloc-proc .ensures .0) (alloc-proc .ensures .1))
 
 returns-3 : tie.Need-returns-3
 unfolding nameSize
-returns-3 c = did (c .before .before .before .before .before .before .before .before .before .pre) (spawn-is (tableOf (c .before .before .before .before .before .before .before .before .before .args .t .now)) (c .before .before .before .before .before .before .before .before .before .args .name .now) _ (omega arith) (sym (c .before .before .before .s .given .1) ∙ c .before .before .before .before .before .alloc-proc .ensures .0) (c .before .before .before .before .before .alloc-proc .ensures .1) (c .spawn-in .ensures))
+returns-3 c =
+    let entry = c .before .before .before .before .before .before .before .before .before in
+    let alloc-proc = c .before .before .before .before .before .alloc-proc in
+    let s = c .before .before .before .s in
+    did (entry .pre) (spawn-is (tableOf (entry .args .t .now)) (entry .args .name .now) _ (omega arith) (sym (s .given .1) ∙ alloc-proc .ensures .0) (alloc-proc .ensures .1) (c .spawn-in .ensures))
 
 pub spawn-system-thread-spec : {M : Type 1} → statement M
 spawn-system-thread-spec =

@@ -17,19 +17,36 @@ enum-told : tie.Need-enum-told
 enum-told c = search needs
 
 returns : tie.Need-returns
-returns c = did (c .before .before .before .before .pre) (start-none (tableOf (c .before .before .before .before .args .t .now)) (sym (c .before .before .init .ensures .0) ∙ cc))
+returns c =
+    let entry = c .before .before .before .before in
+    did (entry .pre) (start-none (tableOf (entry .args .t .now)) (sym (c .before .before .init .ensures .0) ∙ cc))
 
 is-requires : tie.Need-is-requires
-is-requires c κs = subst InTable (c .before .before .p .given .1) (c .before .before .before .before .init .ensures .1)
+is-requires c κs =
+    let init = c .before .before .before .before .init in
+    subst InTable (c .before .before .p .given .1) (init .ensures .1)
 
 make-runnable-requires : tie.Need-make-runnable-requires
-make-runnable-requires c κs = (subst InTable (c .before .before .before .before .before .p .given .1) (c .before .before .before .before .before .before .before .init .ensures .1), allocated-room _ _ (c .before .before .before .before .before .before .before .before .before .pre .queued) (sym (c .before .before .is .ensures) ∙ c .before .if1 .taken))
+make-runnable-requires c κs =
+    let entry = c .before .before .before .before .before .before .before .before .before in
+    let init = c .before .before .before .before .before .before .before .init in
+    let p = c .before .before .before .before .before .p in
+    (subst InTable (p .given .1) (init .ensures .1), allocated-room _ _ (entry .pre .queued) (sym (c .before .before .is .ensures) ∙ c .before .if1 .taken))
 
 returns-2 : tie.Need-returns-2
-returns-2 c = did (c .before .before .before .before .before .before .before .before .before .before .pre) (start-is (tableOf (c .before .before .before .before .before .before .before .before .before .before .args .t .now)) (sym (c .before .before .before .before .before .before .before .before .init .ensures .0) ∙ c .before .before .before .before .before .before .p .given .1) (sym (c .before .before .before .is .ensures) ∙ c .before .before .if1 .taken) (c .make-runnable .ensures))
+returns-2 c =
+    let entry = c .before .before .before .before .before .before .before .before .before .before in
+    let init = c .before .before .before .before .before .before .before .before .init in
+    let p = c .before .before .before .before .before .before .p in
+    let is = c .before .before .before .is in
+    did (entry .pre) (start-is (tableOf (entry .args .t .now)) (sym (init .ensures .0) ∙ p .given .1) (sym (is .ensures) ∙ c .before .before .if1 .taken) (c .make-runnable .ensures))
 
 returns-3 : tie.Need-returns-3
-returns-3 c = did (c .before .before .before .before .before .before .before .before .pre) (start-late (tableOf (c .before .before .before .before .before .before .before .before .args .t .now)) (sym (c .before .before .before .before .before .before .init .ensures .0) ∙ c .before .before .before .before .p .given .1) (sym (c .before .is .ensures) ∙ c .if1 .left))
+returns-3 c =
+    let entry = c .before .before .before .before .before .before .before .before in
+    let init = c .before .before .before .before .before .before .init in
+    let p = c .before .before .before .before .p in
+    did (entry .pre) (start-late (tableOf (entry .args .t .now)) (sym (init .ensures .0) ∙ p .given .1) (sym (c .before .is .ensures) ∙ c .if1 .left))
 
 pub start-init-process-spec : {M : Type 1} → statement M
 start-init-process-spec =

@@ -14,7 +14,9 @@ enum-told : tie.Need-enum-told
 enum-told c = search needs
 
 returns : tie.Need-returns
-returns c = did (c .before .before .before .before .pre) (boot-known (tableOf (c .before .before .before .before .args .t .now)) {s = c .enum-told .given .0 .0} (sym (c .before .before .init .ensures .0) ∙ c .enum-told .given .1))
+returns c =
+    let entry = c .before .before .before .before in
+    did (entry .pre) (boot-known (tableOf (entry .args .t .now)) {s = c .enum-told .given .0 .0} (sym (c .before .before .init .ensures .0) ∙ c .enum-told .given .1))
 
 enum-told-2 : tie.Need-enum-told-2
 enum-told-2 c = search needs
@@ -29,13 +31,24 @@ enum-known-s : tie.Need-enum-known-s
 enum-known-s c = search needs
 
 boot-in-requires : tie.Need-boot-in-requires
-boot-in-requires c κs = subst InSlots (c .before .before .s .given .1) (c .before .before .before .before .alloc-proc .ensures .2)
+boot-in-requires c κs =
+    let alloc-proc = c .before .before .before .before .alloc-proc in
+    subst InSlots (c .before .before .s .given .1) (alloc-proc .ensures .2)
 
 returns-2 : tie.Need-returns-2
-returns-2 c = did (c .before .before .before .before .before .before .before .before .before .pre) (boot-no (tableOf (c .before .before .before .before .before .before .before .before .before .args .t .now)) (sym (c .before .before .before .before .before .before .before .init .ensures .0) ∙ cc) (sym (c .before .n .given .1) ∙ c .before .before .before .alloc-proc .ensures .0) (c .before .before .before .alloc-proc .ensures .1))
+returns-2 c =
+    let entry = c .before .before .before .before .before .before .before .before .before in
+    let init = c .before .before .before .before .before .before .before .init in
+    let alloc-proc = c .before .before .before .alloc-proc in
+    did (entry .pre) (boot-no (tableOf (entry .args .t .now)) (sym (init .ensures .0) ∙ cc) (sym (c .before .n .given .1) ∙ alloc-proc .ensures .0) (alloc-proc .ensures .1))
 
 returns-3 : tie.Need-returns-3
-returns-3 c = did (c .before .before .before .before .before .before .before .before .before .before .before .pre) (boot-is (tableOf (c .before .before .before .before .before .before .before .before .before .before .before .args .t .now)) (sym (c .before .before .before .before .before .before .before .before .before .init .ensures .0) ∙ cc) (sym (c .before .before .before .s .given .1) ∙ c .before .before .before .before .before .alloc-proc .ensures .0) (c .before .before .before .before .before .alloc-proc .ensures .1) (c .boot-in .ensures))
+returns-3 c =
+    let entry = c .before .before .before .before .before .before .before .before .before .before .before in
+    let init = c .before .before .before .before .before .before .before .before .before .init in
+    let alloc-proc = c .before .before .before .before .before .alloc-proc in
+    let s = c .before .before .before .s in
+    did (entry .pre) (boot-is (tableOf (entry .args .t .now)) (sym (init .ensures .0) ∙ cc) (sym (s .given .1) ∙ alloc-proc .ensures .0) (alloc-proc .ensures .1) (c .boot-in .ensures))
 
 pub user-init-spec : {M : Type 1} → statement M
 user-init-spec =

@@ -34,11 +34,13 @@ loop-less c = omega arith
 
 loop-again : tie.Need-loop-again Inv-loop μ-loop
 loop-again c =
-    let b = c .before .before .before .args .buffer .now in
-    let at = c .before .before .before .args .at in
-    let p = c .before .before .before .args .piece .now in
-    let j = c .before .before .loop .j in
-    (omega arith, simp length-set (c .before .before .loop .inv .1), rw (c .before .before .loop .inv .2, add-one) (paste-suc b at p j 0 (omega arith) (omega arith)))
+    let entry = c .before .before .before in
+    let loop = c .before .before .loop in
+    let b = entry .args .buffer .now in
+    let at = entry .args .at in
+    let p = entry .args .piece .now in
+    let j = loop .j in
+    (omega arith, simp length-set (loop .inv .1), rw (loop .inv .2, add-one) (paste-suc b at p j 0 (omega arith) (omega arith)))
 
 add-result : tie.Need-add-result Inv-loop μ-loop
 add-result c = omega arith
@@ -49,9 +51,10 @@ same-length c = c .before .loop .inv .1
 returns : tie.Need-returns Inv-loop μ-loop
 unfolding put
 returns c =
-    let p = c .before .before .args .piece .now in
+    let entry = c .before .before in
+    let p = entry .args .piece .now in
     let e : c .before .loop .j ≡ length p = omega arith in
-    record { fits = c .before .before .pre; buffer = rw (c .before .loop .inv .2, e, take-length p); place = omega arith }
+    record { fits = entry .pre; buffer = rw (c .before .loop .inv .2, e, take-length p); place = omega arith }
 
 pub write-spec : {M : Type 1} → statement M
 write-spec =

@@ -18,7 +18,9 @@ numbered-requires c κs = search needs
 
 returns-2 : tie.Need-returns-2
 unfolding callIn
-returns-2 c = c .numbered .ensures ∙ rw (le-ltb (length (c .before .before .before .before .args .w .now)) callWords (c .before .before .if1 .left))
+returns-2 c =
+    let entry = c .before .before .before .before in
+    c .numbered .ensures ∙ rw (le-ltb (length (entry .args .w .now)) callWords (c .before .before .if1 .left))
 
 pub first-spec : {M : Type 1} → statement M
 first-spec = tie.close (tie.spec returns shared-slice-read-numbered numbered-requires returns-2)

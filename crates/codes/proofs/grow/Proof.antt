@@ -21,7 +21,9 @@ signed-of-requires c κs = search needs
 
 returns-2 : tie.Need-returns-2
 unfolding isFlag yes onlyIf
-returns-2 c = ap (λ (z : ℤ). some (Grow (c .before .before .args .h) z (yes (c .before .before .args .memory)))) (toZ-ofZ (subst (SFits w64) (sym (c .signed-of .ensures)) (signed-fits (c .before .before .args .count) (c .before .before .fits .count))) ∙ c .signed-of .ensures) ∙ rw (lt-ltb (c .before .before .args .memory) 2 (c .before .if1 .left))
+returns-2 c =
+    let entry = c .before .before in
+    ap (λ (z : ℤ). some (Grow (entry .args .h) z (yes (entry .args .memory)))) (toZ-ofZ (subst (SFits w64) (sym (c .signed-of .ensures)) (signed-fits (entry .args .count) (c .before .before .fits .count))) ∙ c .signed-of .ensures) ∙ rw (lt-ltb (entry .args .memory) 2 (c .before .if1 .left))
 
 pub grow-spec : {M : Type 1} → statement M
 grow-spec = tie.close (tie.spec returns signed-of-requires returns-2)

@@ -112,7 +112,9 @@ returns-2 c = rw (c .match .keys2)
 
 returns-3 : tie.Need-returns-3
 unfolding callNumbered calls
-returns-3 c = rw (c .before .before .before .match .keys3)
+returns-3 c =
+    let match = c .before .before .before .match in
+    rw (match .keys3)
 
 returns-4 : tie.Need-returns-4
 unfolding callNumbered calls
@@ -120,11 +122,15 @@ returns-4 c = rw (c .before .match .keys4)
 
 returns-5 : tie.Need-returns-5
 unfolding callNumbered calls
-returns-5 c = c .fork .ensures ∙ rw (c .before .before .before .match .keys5)
+returns-5 c =
+    let match = c .before .before .before .match in
+    c .fork .ensures ∙ rw (match .keys5)
 
 returns-6 : tie.Need-returns-6
 unfolding callNumbered calls
-returns-6 c = c .thread .ensures ∙ rw (c .before .before .ask-of .ensures, c .before .before .before .before .match .keys6)
+returns-6 c =
+    let match = c .before .before .before .before .match in
+    c .thread .ensures ∙ rw (c .before .before .ask-of .ensures, match .keys6)
 
 returns-7 : tie.Need-returns-7
 unfolding callNumbered calls
@@ -148,11 +154,15 @@ returns-11 c = rw (c .before .match .keys11)
 
 returns-12 : tie.Need-returns-12
 unfolding callNumbered calls
-returns-12 c = c .wait .ensures ∙ rw (c .before .before .before .match .keys12)
+returns-12 c =
+    let match = c .before .before .before .match in
+    c .wait .ensures ∙ rw (match .keys12)
 
 returns-13 : tie.Need-returns-13
 unfolding callNumbered calls
-returns-13 c = c .join .ensures ∙ rw (c .before .before .before .before .match .keys13)
+returns-13 c =
+    let match = c .before .before .before .before .match in
+    c .join .ensures ∙ rw (match .keys13)
 
 returns-14 : tie.Need-returns-14
 unfolding callNumbered calls
@@ -164,7 +174,9 @@ returns-15 c = rw (c .before .before .match .keys15)
 
 returns-16 : tie.Need-returns-16
 unfolding callNumbered calls
-returns-16 c = c .grow .ensures ∙ rw (c .before .before .before .before .match .keys16)
+returns-16 c =
+    let match = c .before .before .before .before .match in
+    c .grow .ensures ∙ rw (match .keys16)
 
 returns-17 : tie.Need-returns-17
 returns-17 c = numbered-none (c .before .before .args .n) _ (past (past (past (past (past (past (past (past (past (past (past (past (past (past (past (past (omega arith) (c .match .rest .0 .0 .0 .0 .0 .0 .0 .0 .0 .0 .0 .0 .0 .0 .0 .1)) (c .match .rest .0 .0 .0 .0 .0 .0 .0 .0 .0 .0 .0 .0 .0 .0 .1)) (c .match .rest .0 .0 .0 .0 .0 .0 .0 .0 .0 .0 .0 .0 .0 .1)) (c .match .rest .0 .0 .0 .0 .0 .0 .0 .0 .0 .0 .0 .0 .1)) (c .match .rest .0 .0 .0 .0 .0 .0 .0 .0 .0 .0 .0 .1)) (c .match .rest .0 .0 .0 .0 .0 .0 .0 .0 .0 .0 .1)) (c .match .rest .0 .0 .0 .0 .0 .0 .0 .0 .0 .1)) (c .match .rest .0 .0 .0 .0 .0 .0 .0 .0 .1)) (c .match .rest .0 .0 .0 .0 .0 .0 .0 .1)) (c .match .rest .0 .0 .0 .0 .0 .0 .1)) (c .match .rest .0 .0 .0 .0 .0 .1)) (c .match .rest .0 .0 .0 .0 .1)) (c .match .rest .0 .0 .0 .1)) (c .match .rest .0 .0 .1)) (c .match .rest .0 .1)) (c .match .rest .1))

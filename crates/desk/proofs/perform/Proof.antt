@@ -12,7 +12,10 @@ same-length : tie.Need-same-length
 same-length c = search needs
 
 returns : tie.Need-returns
-returns c = record { table = c .before .before .before .before .step .ensures .table; text = rw (c .before .before .before .before .step .ensures .answer) at (c .before .before .write-answer .ensures .0); within = c .before .before .write-answer .ensures .1; sound = c .before .before .before .before .step .ensures .sound }
+returns c =
+    let step = c .before .before .before .before .step in
+    let write-answer = c .before .before .write-answer in
+    record { table = step .ensures .table; text = rw (step .ensures .answer) at (write-answer .ensures .0); within = write-answer .ensures .1; sound = step .ensures .sound }
 
 pub perform-spec : {M : Type 1} → statement M
 perform-spec = tie.close (tie.spec step-requires write-answer-requires same-length returns)

@@ -33,7 +33,12 @@ same-length c = search needs
 
 returns : tie.Need-returns
 unfolding misreadText field bytes
-returns c = (wrote-more (wrote-more (wrote-more (c .before .before .before .before .before .before .before .before .before .before .before .before .before .before .before .before .write-field .ensures .0) (c .before .before .before .before .before .before .before .before .before .before .before .write .ensures)) (c .before .before .before .before .before .before .before .write-why .ensures .0)) (c .before .before .write2 .ensures), omega (arith, c .before .before .before .before .before .before .before .before .before .before .before .before .before .before .before .before .write-field .ensures .1, c .before .before .before .before .before .before .before .before .before .before .before .write .ensures .place, c .before .before .before .before .before .before .before .write-why .ensures .1, c .before .before .write2 .ensures .place))
+returns c =
+    let write-field = c .before .before .before .before .before .before .before .before .before .before .before .before .before .before .before .before .write-field in
+    let write = c .before .before .before .before .before .before .before .before .before .before .before .write in
+    let write-why = c .before .before .before .before .before .before .before .write-why in
+    let write2 = c .before .before .write2 in
+    (wrote-more (wrote-more (wrote-more (write-field .ensures .0) (write .ensures)) (write-why .ensures .0)) (write2 .ensures), omega (arith, write-field .ensures .1, write .ensures .place, write-why .ensures .1, write2 .ensures .place))
 
 pub write-misread-spec : {M : Type 1} → statement M
 write-misread-spec =

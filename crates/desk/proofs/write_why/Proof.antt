@@ -84,56 +84,80 @@ same-length c = search needs
 
 returns : tie.Need-returns
 unfolding whyText bytes
-returns c = wrote-near whyText UnknownWord {x = c .before .before .before .before .before .before .before .before .args .why} (c .before .before .before .before .before .enum-told .given .1) (lit≤ tt) (c .before .before .write .ensures)
+returns c =
+    let entry = c .before .before .before .before .before .before .before .before in
+    let enum-told = c .before .before .before .before .before .enum-told in
+    wrote-near whyText UnknownWord {x = entry .args .why} (enum-told .given .1) (lit≤ tt) (c .before .before .write .ensures)
 
 same-length-2 : tie.Need-same-length-2
 same-length-2 c = search needs
 
 returns-2 : tie.Need-returns-2
 unfolding whyText bytes
-returns-2 c = wrote-near whyText TooFew {x = c .before .before .before .before .before .before .before .before .args .why} (c .before .before .before .before .before .enum-told2 .given .1) (lit≤ tt) (c .before .before .write2 .ensures)
+returns-2 c =
+    let entry = c .before .before .before .before .before .before .before .before in
+    let enum-told2 = c .before .before .before .before .before .enum-told2 in
+    wrote-near whyText TooFew {x = entry .args .why} (enum-told2 .given .1) (lit≤ tt) (c .before .before .write2 .ensures)
 
 same-length-3 : tie.Need-same-length-3
 same-length-3 c = search needs
 
 returns-3 : tie.Need-returns-3
 unfolding whyText bytes
-returns-3 c = wrote-near whyText TooMany {x = c .before .before .before .before .before .before .before .before .args .why} (c .before .before .before .before .before .enum-told3 .given .1) (lit≤ tt) (c .before .before .write3 .ensures)
+returns-3 c =
+    let entry = c .before .before .before .before .before .before .before .before in
+    let enum-told3 = c .before .before .before .before .before .enum-told3 in
+    wrote-near whyText TooMany {x = entry .args .why} (enum-told3 .given .1) (lit≤ tt) (c .before .before .write3 .ensures)
 
 same-length-4 : tie.Need-same-length-4
 same-length-4 c = search needs
 
 returns-4 : tie.Need-returns-4
 unfolding whyText bytes
-returns-4 c = wrote-near whyText NotANumber {x = c .before .before .before .before .before .before .before .before .args .why} (c .before .before .before .before .before .enum-told4 .given .1) (lit≤ tt) (c .before .before .write4 .ensures)
+returns-4 c =
+    let entry = c .before .before .before .before .before .before .before .before in
+    let enum-told4 = c .before .before .before .before .before .enum-told4 in
+    wrote-near whyText NotANumber {x = entry .args .why} (enum-told4 .given .1) (lit≤ tt) (c .before .before .write4 .ensures)
 
 same-length-5 : tie.Need-same-length-5
 same-length-5 c = search needs
 
 returns-5 : tie.Need-returns-5
 unfolding whyText bytes
-returns-5 c = wrote-near whyText TooLarge {x = c .before .before .before .before .before .before .before .before .args .why} (c .before .before .before .before .before .enum-told5 .given .1) (lit≤ tt) (c .before .before .write5 .ensures)
+returns-5 c =
+    let entry = c .before .before .before .before .before .before .before .before in
+    let enum-told5 = c .before .before .before .before .before .enum-told5 in
+    wrote-near whyText TooLarge {x = entry .args .why} (enum-told5 .given .1) (lit≤ tt) (c .before .before .write5 .ensures)
 
 same-length-6 : tie.Need-same-length-6
 same-length-6 c = search needs
 
 returns-6 : tie.Need-returns-6
 unfolding whyText bytes
-returns-6 c = wrote-near whyText NotAChoice {x = c .before .before .before .before .before .before .before .before .args .why} (c .before .before .before .before .before .enum-told6 .given .1) (lit≤ tt) (c .before .before .write6 .ensures)
+returns-6 c =
+    let entry = c .before .before .before .before .before .before .before .before in
+    let enum-told6 = c .before .before .before .before .before .enum-told6 in
+    wrote-near whyText NotAChoice {x = entry .args .why} (enum-told6 .given .1) (lit≤ tt) (c .before .before .write6 .ensures)
 
 same-length-7 : tie.Need-same-length-7
 same-length-7 c = search needs
 
 returns-7 : tie.Need-returns-7
 unfolding whyText bytes
-returns-7 c = wrote-near whyText NotAName {x = c .before .before .before .before .before .before .before .before .args .why} (c .before .before .before .before .before .enum-told7 .given .1) (lit≤ tt) (c .before .before .write7 .ensures)
+returns-7 c =
+    let entry = c .before .before .before .before .before .before .before .before in
+    let enum-told7 = c .before .before .before .before .before .enum-told7 in
+    wrote-near whyText NotAName {x = entry .args .why} (enum-told7 .given .1) (lit≤ tt) (c .before .before .write7 .ensures)
 
 same-length-8 : tie.Need-same-length-8
 same-length-8 c = search needs
 
 returns-8 : tie.Need-returns-8
 unfolding whyText bytes
-returns-8 c = wrote-near whyText TooLong {x = c .before .before .before .before .before .before .before .before .args .why} (c .before .before .before .before .before .enum-told8 .given .1) (lit≤ tt) (c .before .before .write8 .ensures)
+returns-8 c =
+    let entry = c .before .before .before .before .before .before .before .before in
+    let enum-told8 = c .before .before .before .before .before .enum-told8 in
+    wrote-near whyText TooLong {x = entry .args .why} (enum-told8 .given .1) (lit≤ tt) (c .before .before .write8 .ensures)
 
 pub write-why-spec : {M : Type 1} → statement M
 write-why-spec =

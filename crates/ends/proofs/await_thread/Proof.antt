@@ -14,7 +14,10 @@ sleep-on-requires : tie.Need-sleep-on-requires
 sleep-on-requires c κs = search needs
 
 returns : tie.Need-returns
-returns c = let a = c .before .before .before .before .before .args in thread-awaited (tableOf (a .t .now)) (a .h) (a .x) (a .s) (a .i) (c .before .before .before .slay .ensures) (rw (c .before .own-channel .ensures) at (c .sleep-on .ensures))
+returns c =
+    let entry = c .before .before .before .before .before in
+    let slay = c .before .before .before .slay in
+    let a = entry .args in thread-awaited (tableOf (a .t .now)) (a .h) (a .x) (a .s) (a .i) (slay .ensures) (rw (c .before .own-channel .ensures) at (c .sleep-on .ensures))
 
 pub await-thread-spec : {M : Type 1} → statement M
 await-thread-spec = tie.close (tie.spec slay-requires own-channel-requires sleep-on-requires returns)

@@ -11,13 +11,20 @@ kin-at-requires : tie.Need-kin-at-requires
 kin-at-requires c κs = search needs
 
 wake-of-requires : tie.Need-wake-of-requires
-wake-of-requires c κs = (c .before .kin-at .ensures .2, reparent-queued (tableOf (c .before .before .before .before .before .args .t .now)) (c .before .before .before .before .before .args .s) (c .before .before .before .reparent .ensures) (c .before .before .before .before .before .pre .2))
+wake-of-requires c κs =
+    let entry = c .before .before .before .before .before in
+    let reparent = c .before .before .before .reparent in
+    (c .before .kin-at .ensures .2, reparent-queued (tableOf (entry .args .t .now)) (entry .args .s) (reparent .ensures) (entry .pre .2))
 
 zombie-on-requires : tie.Need-zombie-on-requires
 zombie-on-requires c κs = search needs
 
 returns : tie.Need-returns
-returns c = departed (tableOf (c .before .before .before .before .before .before .before .before .args .t .now)) (c .before .before .before .before .before .before .before .before .args .h) (c .before .before .before .before .before .before .before .before .args .x) (c .before .before .before .before .before .before .before .before .args .s) (c .before .before .before .before .before .before .reparent .ensures) (c .zombie-on .ensures) (c .before .before .before .before .kin-at .ensures .0) (c .before .before .wake-of .ensures)
+returns c =
+    let entry = c .before .before .before .before .before .before .before .before in
+    let reparent = c .before .before .before .before .before .before .reparent in
+    let kin-at = c .before .before .before .before .kin-at in
+    departed (tableOf (entry .args .t .now)) (entry .args .h) (entry .args .x) (entry .args .s) (reparent .ensures) (c .zombie-on .ensures) (kin-at .ensures .0) (c .before .before .wake-of .ensures)
 
 pub depart-spec : {M : Type 1} → statement M
 depart-spec =

@@ -17,19 +17,37 @@ is-slot-requires : tie.Need-is-slot-requires
 is-slot-requires c κs = search needs
 
 returns : tie.Need-returns
-returns c = init-stays (tableOf (c .before .before .before .before .before .before .args .t .now)) (c .before .before .before .before .before .before .args .h) (c .before .before .before .before .before .before .args .x) (c .before .before .before .before .before .before .args .s) (ap (λ (p : Parent). isSlot (c .before .before .before .before .before .before .args .s) p) (sym (c .before .before .init .ensures .0)) ∙ sym (c .before .is-slot .ensures) ∙ c .if1 .taken)
+returns c =
+    let entry = c .before .before .before .before .before .before in
+    init-stays (tableOf (entry .args .t .now)) (entry .args .h) (entry .args .x) (entry .args .s) (ap (λ (p : Parent). isSlot (entry .args .s) p) (sym (c .before .before .init .ensures .0)) ∙ sym (c .before .is-slot .ensures) ∙ c .if1 .taken)
 
 returns-2 : tie.Need-returns-2
-returns-2 c = system-stays (tableOf (c .before .before .before .before .before .before .before .args .t .now)) (c .before .before .before .before .before .before .before .args .h) (c .before .before .before .before .before .before .before .args .x) (c .before .before .before .before .before .before .before .args .s) (ap (λ (p : Parent). isSlot (c .before .before .before .before .before .before .before .args .s) p) (sym (c .before .before .before .init .ensures .0)) ∙ sym (c .before .before .is-slot .ensures) ∙ c .before .if1 .left) (c .before .before .before .before .before .kin-at .ensures .0) (c .if2 .taken)
+returns-2 c =
+    let entry = c .before .before .before .before .before .before .before in
+    let kin-at = c .before .before .before .before .before .kin-at in
+    let init = c .before .before .before .init in
+    system-stays (tableOf (entry .args .t .now)) (entry .args .h) (entry .args .x) (entry .args .s) (ap (λ (p : Parent). isSlot (entry .args .s) p) (sym (init .ensures .0)) ∙ sym (c .before .before .is-slot .ensures) ∙ c .before .if1 .left) (kin-at .ensures .0) (c .if2 .taken)
 
 returns-3 : tie.Need-returns-3
-returns-3 c = thread-stays (tableOf (c .before .before .before .before .before .before .before .before .args .t .now)) (c .before .before .before .before .before .before .before .before .args .h) (c .before .before .before .before .before .before .before .before .args .x) (c .before .before .before .before .before .before .before .before .args .s) (ap (λ (p : Parent). isSlot (c .before .before .before .before .before .before .before .before .args .s) p) (sym (c .before .before .before .before .init .ensures .0)) ∙ sym (c .before .before .before .is-slot .ensures) ∙ c .before .before .if1 .left) (c .before .before .before .before .before .before .kin-at .ensures .0) (c .before .if2 .left) (c .if3 .taken)
+returns-3 c =
+    let entry = c .before .before .before .before .before .before .before .before in
+    let kin-at = c .before .before .before .before .before .before .kin-at in
+    let init = c .before .before .before .before .init in
+    let is-slot = c .before .before .before .is-slot in
+    thread-stays (tableOf (entry .args .t .now)) (entry .args .h) (entry .args .x) (entry .args .s) (ap (λ (p : Parent). isSlot (entry .args .s) p) (sym (init .ensures .0)) ∙ sym (is-slot .ensures) ∙ c .before .before .if1 .left) (kin-at .ensures .0) (c .before .if2 .left) (c .if3 .taken)
 
 exit-leader-requires : tie.Need-exit-leader-requires
 exit-leader-requires c κs = search needs
 
 returns-4 : tie.Need-returns-4
-returns-4 c = leader-exits (tableOf (c .before .before .before .before .before .before .before .before .before .before .args .t .now)) (c .before .before .before .before .before .before .before .before .before .before .args .h) (c .before .before .before .before .before .before .before .before .before .before .args .x) (c .before .before .before .before .before .before .before .before .before .before .args .s) (ap (λ (p : Parent). isSlot (c .before .before .before .before .before .before .before .before .before .before .args .s) p) (sym (c .before .before .before .before .before .before .init .ensures .0)) ∙ sym (c .before .before .before .before .before .is-slot .ensures) ∙ c .before .before .before .before .if1 .left) (c .before .before .before .before .before .before .before .before .kin-at .ensures .0) (c .before .before .before .if2 .left) (c .before .before .if3 .left) (c .exit-leader .ensures)
+returns-4 c =
+    let entry = c .before .before .before .before .before .before .before .before .before .before in
+    let kin-at = c .before .before .before .before .before .before .before .before .kin-at in
+    let init = c .before .before .before .before .before .before .init in
+    let is-slot = c .before .before .before .before .before .is-slot in
+    let if1 = c .before .before .before .before .if1 in
+    let if2 = c .before .before .before .if2 in
+    leader-exits (tableOf (entry .args .t .now)) (entry .args .h) (entry .args .x) (entry .args .s) (ap (λ (p : Parent). isSlot (entry .args .s) p) (sym (init .ensures .0)) ∙ sym (is-slot .ensures) ∙ if1 .left) (kin-at .ensures .0) (if2 .left) (c .before .before .if3 .left) (c .exit-leader .ensures)
 
 pub exit-by-spec : {M : Type 1} → statement M
 exit-by-spec =

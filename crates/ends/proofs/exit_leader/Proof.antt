@@ -21,19 +21,39 @@ enum-known-i : tie.Need-enum-known-i
 enum-known-i c = search needs
 
 await-thread-requires : tie.Need-await-thread-requires
-await-thread-requires c κs = (c .before .before .before .before .before .before .before .before .before .before .pre .0, c .before .before .before .before .before .before .before .before .before .before .pre .1, subst InRange (c .before .before .i .given .1) (c .before .before .before .before .find .ensures .1), reaped-queued (c .before .before .before .before .before .before .before .before .kin-at .result .group) (tableOf (c .before .before .before .before .before .before .before .before .before .before .args .t .now)) (c .before .before .before .before .before .before .reap-threads .ensures) (c .before .before .before .before .before .before .before .before .before .before .pre .2))
+await-thread-requires c κs =
+    let entry = c .before .before .before .before .before .before .before .before .before .before in
+    let kin-at = c .before .before .before .before .before .before .before .before .kin-at in
+    let reap-threads = c .before .before .before .before .before .before .reap-threads in
+    let find = c .before .before .before .before .find in
+    (entry .pre .0, entry .pre .1, subst InRange (c .before .before .i .given .1) (find .ensures .1), reaped-queued (kin-at .result .group) (tableOf (entry .args .t .now)) (reap-threads .ensures) (entry .pre .2))
 
 enum-told : tie.Need-enum-told
 enum-told c = search needs
 
 depart-requires : tie.Need-depart-requires
-depart-requires c κs = (c .before .before .before .before .before .before .before .before .before .pre .0, c .before .before .before .before .before .before .before .before .before .pre .1, reaped-queued (c .before .before .before .before .before .before .before .kin-at .result .group) (tableOf (c .before .before .before .before .before .before .before .before .before .args .t .now)) (c .before .before .before .before .before .reap-threads .ensures) (c .before .before .before .before .before .before .before .before .before .pre .2))
+depart-requires c κs =
+    let entry = c .before .before .before .before .before .before .before .before .before in
+    let kin-at = c .before .before .before .before .before .before .before .kin-at in
+    let reap-threads = c .before .before .before .before .before .reap-threads in
+    (entry .pre .0, entry .pre .1, reaped-queued (kin-at .result .group) (tableOf (entry .args .t .now)) (reap-threads .ensures) (entry .pre .2))
 
 returns : tie.Need-returns
-returns c = leader-is (tableOf (c .before .before .before .before .before .before .before .before .before .before .before .args .t .now)) (c .before .before .before .before .before .before .before .before .before .before .before .args .h) (c .before .before .before .before .before .before .before .before .before .before .before .args .x) (c .before .before .before .before .before .before .before .before .before .before .before .args .s) (ap (λ (k : Kin). k .group) (c .before .before .before .before .before .before .before .before .before .kin-at .ensures .0)) (c .before .before .before .before .before .before .before .reap-threads .ensures) (c .before .before .before .before .before .find .ensures .0) (sym (c .before .before .before .i .given .1)) (c .await-thread .ensures)
+returns c =
+    let entry = c .before .before .before .before .before .before .before .before .before .before .before in
+    let kin-at = c .before .before .before .before .before .before .before .before .before .kin-at in
+    let reap-threads = c .before .before .before .before .before .before .before .reap-threads in
+    let find = c .before .before .before .before .before .find in
+    let i = c .before .before .before .i in
+    leader-is (tableOf (entry .args .t .now)) (entry .args .h) (entry .args .x) (entry .args .s) (ap (λ (k : Kin). k .group) (kin-at .ensures .0)) (reap-threads .ensures) (find .ensures .0) (sym (i .given .1)) (c .await-thread .ensures)
 
 returns-2 : tie.Need-returns-2
-returns-2 c = leader-is (tableOf (c .before .before .before .before .before .before .before .before .before .before .args .t .now)) (c .before .before .before .before .before .before .before .before .before .before .args .h) (c .before .before .before .before .before .before .before .before .before .before .args .x) (c .before .before .before .before .before .before .before .before .before .before .args .s) {r = c .before .before .before .before .find .result} {y = Nothing} (ap (λ (k : Kin). k .group) (c .before .before .before .before .before .before .before .before .kin-at .ensures .0)) (c .before .before .before .before .before .before .reap-threads .ensures) (c .before .before .before .before .find .ensures .0) (cc) (c .depart .ensures)
+returns-2 c =
+    let entry = c .before .before .before .before .before .before .before .before .before .before in
+    let kin-at = c .before .before .before .before .before .before .before .before .kin-at in
+    let reap-threads = c .before .before .before .before .before .before .reap-threads in
+    let find = c .before .before .before .before .find in
+    leader-is (tableOf (entry .args .t .now)) (entry .args .h) (entry .args .x) (entry .args .s) {r = find .result} {y = Nothing} (ap (λ (k : Kin). k .group) (kin-at .ensures .0)) (reap-threads .ensures) (find .ensures .0) (cc) (c .depart .ensures)
 
 pub exit-leader-spec : {M : Type 1} → statement M
 exit-leader-spec =

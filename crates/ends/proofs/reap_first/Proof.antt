@@ -16,19 +16,36 @@ enum-told : tie.Need-enum-told
 enum-told c = search needs
 
 returns : tie.Need-returns
-returns c = look-none (c .before .before .before .before .args .m) (tableOf (c .before .before .before .before .args .t .now)) (c .before .before .find .result) (c .before .before .find .ensures .0) (cc)
+returns c =
+    let entry = c .before .before .before .before in
+    let find = c .before .before .find in
+    look-none (entry .args .m) (tableOf (entry .args .t .now)) (find .result) (find .ensures .0) (cc)
 
 is-requires : tie.Need-is-requires
-is-requires c κs = subst InRange (c .before .before .i .given .1) (c .before .before .before .before .find .ensures .1)
+is-requires c κs =
+    let find = c .before .before .before .before .find in
+    subst InRange (c .before .before .i .given .1) (find .ensures .1)
 
 free-proc-requires : tie.Need-free-proc-requires
-free-proc-requires c κs = subst InRange (c .before .before .before .before .before .i .given .1) (c .before .before .before .before .before .before .before .find .ensures .1)
+free-proc-requires c κs =
+    let find = c .before .before .before .before .before .before .before .find in
+    let i = c .before .before .before .before .before .i in
+    subst InRange (i .given .1) (find .ensures .1)
 
 returns-2 : tie.Need-returns-2
-returns-2 c = look-reaps (c .before .before .before .before .before .before .before .before .before .before .args .m) (tableOf (c .before .before .before .before .before .before .before .before .before .before .args .t .now)) (c .before .before .before .before .before .before .before .before .find .result) (c .before .before .before .before .before .before .before .before .find .ensures .0) (sym (c .before .before .before .before .before .before .i .given .1)) (sym (c .before .before .before .is .ensures) ∙ c .before .before .if1 .taken) (c .free-proc .ensures)
+returns-2 c =
+    let entry = c .before .before .before .before .before .before .before .before .before .before in
+    let find = c .before .before .before .before .before .before .before .before .find in
+    let i = c .before .before .before .before .before .before .i in
+    let is = c .before .before .before .is in
+    look-reaps (entry .args .m) (tableOf (entry .args .t .now)) (find .result) (find .ensures .0) (sym (i .given .1)) (sym (is .ensures) ∙ c .before .before .if1 .taken) (c .free-proc .ensures)
 
 returns-3 : tie.Need-returns-3
-returns-3 c = look-live (c .before .before .before .before .before .before .before .before .args .m) (tableOf (c .before .before .before .before .before .before .before .before .args .t .now)) (c .before .before .before .before .before .before .find .result) (c .before .before .before .before .before .before .find .ensures .0) (sym (c .before .before .before .before .i .given .1)) (sym (c .before .is .ensures) ∙ c .if1 .left)
+returns-3 c =
+    let entry = c .before .before .before .before .before .before .before .before in
+    let find = c .before .before .before .before .before .before .find in
+    let i = c .before .before .before .before .i in
+    look-live (entry .args .m) (tableOf (entry .args .t .now)) (find .result) (find .ensures .0) (sym (i .given .1)) (sym (c .before .is .ensures) ∙ c .if1 .left)
 
 pub reap-first-spec : {M : Type 1} → statement M
 reap-first-spec =

@@ -22,7 +22,9 @@ reap-first-requires : tie.Need-reap-first-requires Inv-loop μ-loop
 reap-first-requires c κs = tt
 
 returns : tie.Need-returns Inv-loop μ-loop
-returns c = looks-still _ _ _ (c .before .before .before .before .loop .inv .0) (c .before .before .before .before .loop .inv .1) (c .before .reap-first .ensures .0) (sym (not-true _ (c .if1 .taken)) ∙ c .before .reap-first .ensures .1)
+returns c =
+    let loop = c .before .before .before .before .loop in
+    looks-still _ _ _ (loop .inv .0) (loop .inv .1) (c .before .reap-first .ensures .0) (sym (not-true _ (c .if1 .taken)) ∙ c .before .reap-first .ensures .1)
 
 add-counter : tie.Need-add-counter Inv-loop μ-loop
 unfolding slotCount
@@ -34,7 +36,9 @@ loop-less c = omega arith
 
 loop-again : tie.Need-loop-again Inv-loop μ-loop
 unfolding slotCount
-loop-again c = (omega arith, looks-more _ _ _ (c .before .reap-first .ensures .0) (c .before .before .before .before .loop .inv .1))
+loop-again c =
+    let loop = c .before .before .before .before .loop in
+    (omega arith, looks-more _ _ _ (c .before .reap-first .ensures .0) (loop .inv .1))
 
 returns-2 : tie.Need-returns-2 Inv-loop μ-loop
 unfolding slotCount

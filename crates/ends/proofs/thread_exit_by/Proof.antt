@@ -17,22 +17,44 @@ is-slot-requires : tie.Need-is-slot-requires
 is-slot-requires c κs = search needs
 
 returns : tie.Need-returns
-returns c = init-stays-too (tableOf (c .before .before .before .before .before .before .args .t .now)) (c .before .before .before .before .before .before .args .h) (c .before .before .before .before .before .before .args .x) (c .before .before .before .before .before .before .args .s) (ap (λ (p : Parent). isSlot (c .before .before .before .before .before .before .args .s) p) (sym (c .before .before .init .ensures .0)) ∙ sym (c .before .is-slot .ensures) ∙ c .if1 .taken)
+returns c =
+    let entry = c .before .before .before .before .before .before in
+    init-stays-too (tableOf (entry .args .t .now)) (entry .args .h) (entry .args .x) (entry .args .s) (ap (λ (p : Parent). isSlot (entry .args .s) p) (sym (c .before .before .init .ensures .0)) ∙ sym (c .before .is-slot .ensures) ∙ c .if1 .taken)
 
 returns-2 : tie.Need-returns-2
-returns-2 c = system-stays-too (tableOf (c .before .before .before .before .before .before .before .args .t .now)) (c .before .before .before .before .before .before .before .args .h) (c .before .before .before .before .before .before .before .args .x) (c .before .before .before .before .before .before .before .args .s) (ap (λ (p : Parent). isSlot (c .before .before .before .before .before .before .before .args .s) p) (sym (c .before .before .before .init .ensures .0)) ∙ sym (c .before .before .is-slot .ensures) ∙ c .before .if1 .left) (c .before .before .before .before .before .kin-at .ensures .0) (c .if2 .taken)
+returns-2 c =
+    let entry = c .before .before .before .before .before .before .before in
+    let kin-at = c .before .before .before .before .before .kin-at in
+    let init = c .before .before .before .init in
+    system-stays-too (tableOf (entry .args .t .now)) (entry .args .h) (entry .args .x) (entry .args .s) (ap (λ (p : Parent). isSlot (entry .args .s) p) (sym (init .ensures .0)) ∙ sym (c .before .before .is-slot .ensures) ∙ c .before .if1 .left) (kin-at .ensures .0) (c .if2 .taken)
 
 exit-thread-requires : tie.Need-exit-thread-requires
-exit-thread-requires c κs = (c .before .before .before .before .before .before .before .before .before .pre .0, c .before .before .before .before .before .before .before .before .before .pre .1, c .before .before .before .before .before .before .before .before .before .pre .2 .queued)
+exit-thread-requires c κs =
+    let entry = c .before .before .before .before .before .before .before .before .before in
+    (entry .pre .0, entry .pre .1, entry .pre .2 .queued)
 
 returns-3 : tie.Need-returns-3
-returns-3 c = thread-exits (tableOf (c .before .before .before .before .before .before .before .before .before .before .args .t .now)) (c .before .before .before .before .before .before .before .before .before .before .args .h) (c .before .before .before .before .before .before .before .before .before .before .args .x) (c .before .before .before .before .before .before .before .before .before .before .args .s) (ap (λ (p : Parent). isSlot (c .before .before .before .before .before .before .before .before .before .before .args .s) p) (sym (c .before .before .before .before .before .before .init .ensures .0)) ∙ sym (c .before .before .before .before .before .is-slot .ensures) ∙ c .before .before .before .before .if1 .left) (c .before .before .before .before .before .before .before .before .kin-at .ensures .0) (c .before .before .before .if2 .left) (c .before .before .if3 .taken) (c .exit-thread .ensures)
+returns-3 c =
+    let entry = c .before .before .before .before .before .before .before .before .before .before in
+    let kin-at = c .before .before .before .before .before .before .before .before .kin-at in
+    let init = c .before .before .before .before .before .before .init in
+    let is-slot = c .before .before .before .before .before .is-slot in
+    let if1 = c .before .before .before .before .if1 in
+    let if2 = c .before .before .before .if2 in
+    thread-exits (tableOf (entry .args .t .now)) (entry .args .h) (entry .args .x) (entry .args .s) (ap (λ (p : Parent). isSlot (entry .args .s) p) (sym (init .ensures .0)) ∙ sym (is-slot .ensures) ∙ if1 .left) (kin-at .ensures .0) (if2 .left) (c .before .before .if3 .taken) (c .exit-thread .ensures)
 
 exit-leader-requires : tie.Need-exit-leader-requires
 exit-leader-requires c κs = search needs
 
 returns-4 : tie.Need-returns-4
-returns-4 c = leader-exits-too (tableOf (c .before .before .before .before .before .before .before .before .before .before .args .t .now)) (c .before .before .before .before .before .before .before .before .before .before .args .h) (c .before .before .before .before .before .before .before .before .before .before .args .x) (c .before .before .before .before .before .before .before .before .before .before .args .s) (ap (λ (p : Parent). isSlot (c .before .before .before .before .before .before .before .before .before .before .args .s) p) (sym (c .before .before .before .before .before .before .init .ensures .0)) ∙ sym (c .before .before .before .before .before .is-slot .ensures) ∙ c .before .before .before .before .if1 .left) (c .before .before .before .before .before .before .before .before .kin-at .ensures .0) (c .before .before .before .if2 .left) (c .before .before .if3 .left) (c .exit-leader .ensures)
+returns-4 c =
+    let entry = c .before .before .before .before .before .before .before .before .before .before in
+    let kin-at = c .before .before .before .before .before .before .before .before .kin-at in
+    let init = c .before .before .before .before .before .before .init in
+    let is-slot = c .before .before .before .before .before .is-slot in
+    let if1 = c .before .before .before .before .if1 in
+    let if2 = c .before .before .before .if2 in
+    leader-exits-too (tableOf (entry .args .t .now)) (entry .args .h) (entry .args .x) (entry .args .s) (ap (λ (p : Parent). isSlot (entry .args .s) p) (sym (init .ensures .0)) ∙ sym (is-slot .ensures) ∙ if1 .left) (kin-at .ensures .0) (if2 .left) (c .before .before .if3 .left) (c .exit-leader .ensures)
 
 pub thread-exit-by-spec : {M : Type 1} → statement M
 thread-exit-by-spec =

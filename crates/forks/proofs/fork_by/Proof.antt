@@ -19,7 +19,9 @@ enum-told : tie.Need-enum-told
 enum-told c = search needs
 
 returns : tie.Need-returns
-returns c = fork-alone (tableOf (c .before .before .before .before .args .t .now)) (c .before .before .before .before .args .memory) (c .before .before .before .before .args .s) ((cc) ∙ ap (λ (k : Kin). k .group) (c .before .before .kin-at .ensures .0))
+returns c =
+    let entry = c .before .before .before .before in
+    fork-alone (tableOf (entry .args .t .now)) (entry .args .memory) (entry .args .s) ((cc) ∙ ap (λ (k : Kin). k .group) (c .before .before .kin-at .ensures .0))
 
 alloc-proc-requires : tie.Need-alloc-proc-requires
 alloc-proc-requires c κs = search needs
@@ -39,13 +41,28 @@ fork-in-requires c κs = (
 )
 
 returns-2 : tie.Need-returns-2
-returns-2 c = fork-made (tableOf (c .before .before .before .before .before .before .before .before .before .before .before .before .before .args .t .now)) (c .before .before .before .before .before .before .before .before .before .before .before .before .before .args .memory) (c .before .before .before .before .before .before .before .before .before .before .before .before .before .args .s) (sym (c .before .before .before .before .before .before .before .before .before .group .given .1) ∙ ap (λ (k : Kin). k .group) (c .before .before .before .before .before .before .before .before .before .before .before .kin-at .ensures .0)) (sym (c .before .before .before .before .c .given .1) ∙ c .before .before .before .before .before .before .alloc-proc .ensures .0) (c .before .before .before .before .before .before .alloc-proc .ensures .1) (c .before .before .if1 .taken) (c .fork-in .ensures)
+returns-2 c =
+    let entry = c .before .before .before .before .before .before .before .before .before .before .before .before .before in
+    let kin-at = c .before .before .before .before .before .before .before .before .before .before .before .kin-at in
+    let group = c .before .before .before .before .before .before .before .before .before .group in
+    let alloc-proc = c .before .before .before .before .before .before .alloc-proc in
+    fork-made (tableOf (entry .args .t .now)) (entry .args .memory) (entry .args .s) (sym (group .given .1) ∙ ap (λ (k : Kin). k .group) (kin-at .ensures .0)) (sym (c .before .before .before .before .c .given .1) ∙ alloc-proc .ensures .0) (alloc-proc .ensures .1) (c .before .before .if1 .taken) (c .fork-in .ensures)
 
 returns-3 : tie.Need-returns-3
-returns-3 c = fork-full (tableOf (c .before .before .before .before .before .before .before .before .before .before .args .t .now)) (c .before .before .before .before .before .before .before .before .before .before .args .memory) (c .before .before .before .before .before .before .before .before .before .before .args .s) (sym (c .before .before .before .before .before .before .group .given .1) ∙ ap (λ (k : Kin). k .group) (c .before .before .before .before .before .before .before .before .kin-at .ensures .0)) (sym (c .before .n .given .1) ∙ c .before .before .before .alloc-proc .ensures .0) (c .before .before .before .alloc-proc .ensures .1)
+returns-3 c =
+    let entry = c .before .before .before .before .before .before .before .before .before .before in
+    let kin-at = c .before .before .before .before .before .before .before .before .kin-at in
+    let group = c .before .before .before .before .before .before .group in
+    let alloc-proc = c .before .before .before .alloc-proc in
+    fork-full (tableOf (entry .args .t .now)) (entry .args .memory) (entry .args .s) (sym (group .given .1) ∙ ap (λ (k : Kin). k .group) (kin-at .ensures .0)) (sym (c .before .n .given .1) ∙ alloc-proc .ensures .0) (alloc-proc .ensures .1)
 
 returns-4 : tie.Need-returns-4
-returns-4 c = fork-poor (tableOf (c .before .before .before .before .before .before .before .before .before .before .before .args .t .now)) (c .before .before .before .before .before .before .before .before .before .before .before .args .memory) (c .before .before .before .before .before .before .before .before .before .before .before .args .s) (sym (c .before .before .before .before .before .before .before .group .given .1) ∙ ap (λ (k : Kin). k .group) (c .before .before .before .before .before .before .before .before .before .kin-at .ensures .0)) (sym (c .before .before .c .given .1) ∙ c .before .before .before .before .alloc-proc .ensures .0) (c .before .before .before .before .alloc-proc .ensures .1) (c .if1 .left)
+returns-4 c =
+    let entry = c .before .before .before .before .before .before .before .before .before .before .before in
+    let kin-at = c .before .before .before .before .before .before .before .before .before .kin-at in
+    let group = c .before .before .before .before .before .before .before .group in
+    let alloc-proc = c .before .before .before .before .alloc-proc in
+    fork-poor (tableOf (entry .args .t .now)) (entry .args .memory) (entry .args .s) (sym (group .given .1) ∙ ap (λ (k : Kin). k .group) (kin-at .ensures .0)) (sym (c .before .before .c .given .1) ∙ alloc-proc .ensures .0) (alloc-proc .ensures .1) (c .if1 .left)
 
 pub fork-by-spec : {M : Type 1} → statement M
 fork-by-spec =

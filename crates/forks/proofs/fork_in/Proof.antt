@@ -33,12 +33,23 @@ set-group-requires c κs = search needs
 
 make-runnable-requires : tie.Need-make-runnable-requires
 unfolding fill change onCore onBooks
-make-runnable-requires c κs = (c .before .before .before .before .before .before .before .before .before .before .before .before .before .before .pre .2, rw (c .before .set-group .ensures, c .before .before .before .fill .ensures) (c .before .before .before .before .before .before .before .before .before .before .before .before .before .before .pre .3))
+make-runnable-requires c κs =
+    let entry = c .before .before .before .before .before .before .before .before .before .before .before .before .before .before in
+    let fill = c .before .before .before .fill in
+    (entry .pre .2, rw (c .before .set-group .ensures, fill .ensures) (entry .pre .3))
 
 returns : tie.Need-returns
-returns c = child-law (tableOf (c .before .before .before .before .before .before .before .before .before .before .before .before .before .before .before .args .t .now)) (c .before .before .before .before .before .before .before .before .before .before .before .before .before .before .before .args .s) (c .before .before .before .before .before .before .before .before .before .before .before .before .before .before .before .args .g) (c .before .before .before .before .before .before .before .before .before .before .before .before .before .before .before .args .c) _ (c .before .before .before .before .before .before .before .before .before .new-group .result) (c .before .before .before .before .before .before .user-sp .result) (c .before .before .before .before .before .before .before .start-at .result .name0) (c .before .before .before .before .before .before .before .start-at .result .name1)
-    (c .before .before .before .before .before .before .before .before .before .before .before .before .before .pids .ensures) (c .before .before .before .before .before .before .before .before .before .before .before .group-at .ensures) (c .before .before .before .before .before .before .before .before .before .new-group .ensures .0) (ap (λ (b : Start). b .name) (c .before .before .before .before .before .before .before .start-at .ensures)) (c .before .before .before .before .before .before .user-sp .ensures)
-    (c .make-runnable .ensures ∙ ap (onCore (publish _)) (c .before .before .set-group .ensures ∙ ap (onBooks (setGroup _ _)) (c .before .before .before .before .fill .ensures)))
+returns c =
+    let entry = c .before .before .before .before .before .before .before .before .before .before .before .before .before .before .before in
+    let pids = c .before .before .before .before .before .before .before .before .before .before .before .before .before .pids in
+    let group-at = c .before .before .before .before .before .before .before .before .before .before .before .group-at in
+    let new-group = c .before .before .before .before .before .before .before .before .before .new-group in
+    let start-at = c .before .before .before .before .before .before .before .start-at in
+    let user-sp = c .before .before .before .before .before .before .user-sp in
+    let fill = c .before .before .before .before .fill in
+    child-law (tableOf (entry .args .t .now)) (entry .args .s) (entry .args .g) (entry .args .c) _ (new-group .result) (user-sp .result) (start-at .result .name0) (start-at .result .name1)
+    (pids .ensures) (group-at .ensures) (new-group .ensures .0) (ap (λ (b : Start). b .name) (start-at .ensures)) (user-sp .ensures)
+    (c .make-runnable .ensures ∙ ap (onCore (publish _)) (c .before .before .set-group .ensures ∙ ap (onBooks (setGroup _ _)) (fill .ensures)))
 
 pub fork-in-spec : {M : Type 1} → statement M
 fork-in-spec =

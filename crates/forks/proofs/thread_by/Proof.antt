@@ -19,22 +19,36 @@ enum-told : tie.Need-enum-told
 enum-told c = search needs
 
 returns : tie.Need-returns
-returns c = thread-alone (tableOf (c .before .before .before .before .args .t .now)) (c .before .before .before .before .args .a) (c .before .before .before .before .args .m) (c .before .before .before .before .args .s) ((cc) ∙ ap (λ (k : Kin). k .group) (c .before .before .kin-at .ensures .0))
+returns c =
+    let entry = c .before .before .before .before in
+    thread-alone (tableOf (entry .args .t .now)) (entry .args .a) (entry .args .m) (entry .args .s) ((cc) ∙ ap (λ (k : Kin). k .group) (c .before .before .kin-at .ensures .0))
 
 group-at-requires : tie.Need-group-at-requires
-group-at-requires c κs = subst InGroups (c .before .before .group .given .1) (c .before .before .before .before .kin-at .ensures .1)
+group-at-requires c κs =
+    let kin-at = c .before .before .before .before .kin-at in
+    subst InGroups (c .before .before .group .given .1) (kin-at .ensures .1)
 
 wrong-ask-requires : tie.Need-wrong-ask-requires
 wrong-ask-requires c κs = search needs
 
 returns-2 : tie.Need-returns-2
-returns-2 c = thread-wrong (tableOf (c .before .before .before .before .before .before .before .before .before .args .t .now)) (c .before .before .before .before .before .before .before .before .before .args .a) (c .before .before .before .before .before .before .before .before .before .args .m) (c .before .before .before .before .before .before .before .before .before .args .s) (sym (c .before .before .before .before .before .group .given .1) ∙ ap (λ (k : Kin). k .group) (c .before .before .before .before .before .before .before .kin-at .ensures .0)) (c .before .before .group-at .ensures) (c .before .wrong-ask .ensures) (c .if1 .taken)
+returns-2 c =
+    let entry = c .before .before .before .before .before .before .before .before .before in
+    let kin-at = c .before .before .before .before .before .before .before .kin-at in
+    let group = c .before .before .before .before .before .group in
+    thread-wrong (tableOf (entry .args .t .now)) (entry .args .a) (entry .args .m) (entry .args .s) (sym (group .given .1) ∙ ap (λ (k : Kin). k .group) (kin-at .ensures .0)) (c .before .before .group-at .ensures) (c .before .wrong-ask .ensures) (c .if1 .taken)
 
 unmapped-requires : tie.Need-unmapped-requires
 unmapped-requires c κs = search needs
 
 returns-3 : tie.Need-returns-3
-returns-3 c = thread-unmapped (tableOf (c .before .before .before .before .before .before .before .before .before .before .before .args .t .now)) (c .before .before .before .before .before .before .before .before .before .before .before .args .a) (c .before .before .before .before .before .before .before .before .before .before .before .args .m) (c .before .before .before .before .before .before .before .before .before .before .before .args .s) (sym (c .before .before .before .before .before .before .before .group .given .1) ∙ ap (λ (k : Kin). k .group) (c .before .before .before .before .before .before .before .before .before .kin-at .ensures .0)) (c .before .before .before .before .group-at .ensures) (c .before .before .before .wrong-ask .ensures) (c .before .before .if1 .left) (sym (c .before .unmapped .ensures) ∙ c .if2 .taken)
+returns-3 c =
+    let entry = c .before .before .before .before .before .before .before .before .before .before .before in
+    let kin-at = c .before .before .before .before .before .before .before .before .before .kin-at in
+    let group = c .before .before .before .before .before .before .before .group in
+    let group-at = c .before .before .before .before .group-at in
+    let wrong-ask = c .before .before .before .wrong-ask in
+    thread-unmapped (tableOf (entry .args .t .now)) (entry .args .a) (entry .args .m) (entry .args .s) (sym (group .given .1) ∙ ap (λ (k : Kin). k .group) (kin-at .ensures .0)) (group-at .ensures) (wrong-ask .ensures) (c .before .before .if1 .left) (sym (c .before .unmapped .ensures) ∙ c .if2 .taken)
 
 alloc-proc-requires : tie.Need-alloc-proc-requires
 alloc-proc-requires c κs = search needs
@@ -56,10 +70,30 @@ thread-in-requires c κs = (
 )
 
 returns-4 : tie.Need-returns-4
-returns-4 c = thread-full (tableOf (c .before .before .before .before .before .before .before .before .before .before .before .before .before .before .before .before .args .t .now)) (c .before .before .before .before .before .before .before .before .before .before .before .before .before .before .before .before .args .a) (c .before .before .before .before .before .before .before .before .before .before .before .before .before .before .before .before .args .m) (c .before .before .before .before .before .before .before .before .before .before .before .before .before .before .before .before .args .s) (sym (c .before .before .before .before .before .before .before .before .before .before .before .before .group .given .1) ∙ ap (λ (k : Kin). k .group) (c .before .before .before .before .before .before .before .before .before .before .before .before .before .before .kin-at .ensures .0)) (c .before .before .before .before .before .before .before .before .before .group-at .ensures) (c .before .before .before .before .before .before .before .before .wrong-ask .ensures) (c .before .before .before .before .before .before .before .if1 .left) (sym (c .before .before .before .before .before .before .unmapped .ensures) ∙ c .before .before .before .before .before .if2 .left) (sym (c .before .n .given .1) ∙ c .before .before .before .alloc-proc .ensures .0) (c .before .before .before .alloc-proc .ensures .1)
+returns-4 c =
+    let entry = c .before .before .before .before .before .before .before .before .before .before .before .before .before .before .before .before in
+    let kin-at = c .before .before .before .before .before .before .before .before .before .before .before .before .before .before .kin-at in
+    let group = c .before .before .before .before .before .before .before .before .before .before .before .before .group in
+    let group-at = c .before .before .before .before .before .before .before .before .before .group-at in
+    let wrong-ask = c .before .before .before .before .before .before .before .before .wrong-ask in
+    let if1 = c .before .before .before .before .before .before .before .if1 in
+    let unmapped = c .before .before .before .before .before .before .unmapped in
+    let if2 = c .before .before .before .before .before .if2 in
+    let alloc-proc = c .before .before .before .alloc-proc in
+    thread-full (tableOf (entry .args .t .now)) (entry .args .a) (entry .args .m) (entry .args .s) (sym (group .given .1) ∙ ap (λ (k : Kin). k .group) (kin-at .ensures .0)) (group-at .ensures) (wrong-ask .ensures) (if1 .left) (sym (unmapped .ensures) ∙ if2 .left) (sym (c .before .n .given .1) ∙ alloc-proc .ensures .0) (alloc-proc .ensures .1)
 
 returns-5 : tie.Need-returns-5
-returns-5 c = thread-made (tableOf (c .before .before .before .before .before .before .before .before .before .before .before .before .before .before .before .before .before .before .args .t .now)) (c .before .before .before .before .before .before .before .before .before .before .before .before .before .before .before .before .before .before .args .a) (c .before .before .before .before .before .before .before .before .before .before .before .before .before .before .before .before .before .before .args .m) (c .before .before .before .before .before .before .before .before .before .before .before .before .before .before .before .before .before .before .args .s) (sym (c .before .before .before .before .before .before .before .before .before .before .before .before .before .before .group .given .1) ∙ ap (λ (k : Kin). k .group) (c .before .before .before .before .before .before .before .before .before .before .before .before .before .before .before .before .kin-at .ensures .0)) (c .before .before .before .before .before .before .before .before .before .before .before .group-at .ensures) (c .before .before .before .before .before .before .before .before .before .before .wrong-ask .ensures) (c .before .before .before .before .before .before .before .before .before .if1 .left) (sym (c .before .before .before .before .before .before .before .before .unmapped .ensures) ∙ c .before .before .before .before .before .before .before .if2 .left) (sym (c .before .before .before .c .given .1) ∙ c .before .before .before .before .before .alloc-proc .ensures .0) (c .before .before .before .before .before .alloc-proc .ensures .1) (c .thread-in .ensures)
+returns-5 c =
+    let entry = c .before .before .before .before .before .before .before .before .before .before .before .before .before .before .before .before .before .before in
+    let kin-at = c .before .before .before .before .before .before .before .before .before .before .before .before .before .before .before .before .kin-at in
+    let group = c .before .before .before .before .before .before .before .before .before .before .before .before .before .before .group in
+    let group-at = c .before .before .before .before .before .before .before .before .before .before .before .group-at in
+    let wrong-ask = c .before .before .before .before .before .before .before .before .before .before .wrong-ask in
+    let if1 = c .before .before .before .before .before .before .before .before .before .if1 in
+    let unmapped = c .before .before .before .before .before .before .before .before .unmapped in
+    let if2 = c .before .before .before .before .before .before .before .if2 in
+    let alloc-proc = c .before .before .before .before .before .alloc-proc in
+    thread-made (tableOf (entry .args .t .now)) (entry .args .a) (entry .args .m) (entry .args .s) (sym (group .given .1) ∙ ap (λ (k : Kin). k .group) (kin-at .ensures .0)) (group-at .ensures) (wrong-ask .ensures) (if1 .left) (sym (unmapped .ensures) ∙ if2 .left) (sym (c .before .before .before .c .given .1) ∙ alloc-proc .ensures .0) (alloc-proc .ensures .1) (c .thread-in .ensures)
 
 pub thread-by-spec : {M : Type 1} → statement M
 thread-by-spec =

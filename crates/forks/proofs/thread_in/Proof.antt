@@ -32,23 +32,39 @@ user-sp-requires c κs = search needs
 
 add-t18 : tie.Need-add-t18
 unfolding addressTop pageSize
-add-t18 c = omega (arith, c .before .before .before .before .before .before .before .before .before .before .pre .5)
+add-t18 c =
+    let entry = c .before .before .before .before .before .before .before .before .before .before in
+    omega (arith, entry .pre .5)
 
 fill-requires : tie.Need-fill-requires
 fill-requires c κs = search needs
 
 join-group-requires : tie.Need-join-group-requires
 unfolding fill change onCore
-join-group-requires c κs = (c .before .before .before .before .before .before .before .before .before .before .before .before .before .pre .1, rw (c .before .fill .ensures) (c .before .before .before .before .before .before .before .before .before .before .before .before .before .pre .4))
+join-group-requires c κs =
+    let entry = c .before .before .before .before .before .before .before .before .before .before .before .before .before in
+    (entry .pre .1, rw (c .before .fill .ensures) (entry .pre .4))
 
 make-runnable-requires : tie.Need-make-runnable-requires
 unfolding fill change onCore onBooks
-make-runnable-requires c κs = (c .before .before .before .before .before .before .before .before .before .before .before .before .before .before .before .pre .2, rw (c .before .join-group .ensures, c .before .before .before .fill .ensures) (c .before .before .before .before .before .before .before .before .before .before .before .before .before .before .before .pre .3))
+make-runnable-requires c κs =
+    let entry = c .before .before .before .before .before .before .before .before .before .before .before .before .before .before .before in
+    let fill = c .before .before .before .fill in
+    (entry .pre .2, rw (c .before .join-group .ensures, fill .ensures) (entry .pre .3))
 
 returns : tie.Need-returns
-returns c = thread-law (tableOf (c .before .before .before .before .before .before .before .before .before .before .before .before .before .before .before .before .args .t .now)) (c .before .before .before .before .before .before .before .before .before .before .before .before .before .before .before .before .args .a) (c .before .before .before .before .before .before .before .before .before .before .before .before .before .before .before .before .args .s) (c .before .before .before .before .before .before .before .before .before .before .before .before .before .before .before .before .args .g) (c .before .before .before .before .before .before .before .before .before .before .before .before .before .before .before .before .args .c) _ (c .before .before .before .before .before .before .before .before .below .result) (c .before .before .before .before .before .before .before .user-sp .result) (c .before .before .before .before .before .before .before .before .before .before .before .before .start-at .result .name0) (c .before .before .before .before .before .before .before .before .before .before .before .before .start-at .result .name1)
-    (c .before .before .before .before .before .before .before .before .before .before .before .before .before .before .pids .ensures) (leader-law (tableOf (c .before .before .before .before .before .before .before .before .before .before .before .before .before .before .before .before .args .t .now)) (c .before .before .before .before .before .before .before .before .before .before .before .before .before .before .before .before .args .s) (c .before .before .before .before .before .before .before .before .before .before .kin-at .ensures .0) (c .before .before .before .before .before .before .before .before .before .leader-of .ensures .0)) (c .before .before .before .before .before .before .before .before .below .ensures) (c .before .before .before .before .before .before .before .user-sp .ensures) (ap (λ (b : Start). b .name) (c .before .before .before .before .before .before .before .before .before .before .before .before .start-at .ensures))
-    (c .make-runnable .ensures ∙ ap (onCore (publish _)) (c .before .before .join-group .ensures ∙ ap (onBooks (joinGroup _)) (c .before .before .before .before .fill .ensures)))
+returns c =
+    let entry = c .before .before .before .before .before .before .before .before .before .before .before .before .before .before .before .before in
+    let pids = c .before .before .before .before .before .before .before .before .before .before .before .before .before .before .pids in
+    let start-at = c .before .before .before .before .before .before .before .before .before .before .before .before .start-at in
+    let kin-at = c .before .before .before .before .before .before .before .before .before .before .kin-at in
+    let leader-of = c .before .before .before .before .before .before .before .before .before .leader-of in
+    let below = c .before .before .before .before .before .before .before .before .below in
+    let user-sp = c .before .before .before .before .before .before .before .user-sp in
+    let fill = c .before .before .before .before .fill in
+    thread-law (tableOf (entry .args .t .now)) (entry .args .a) (entry .args .s) (entry .args .g) (entry .args .c) _ (below .result) (user-sp .result) (start-at .result .name0) (start-at .result .name1)
+    (pids .ensures) (leader-law (tableOf (entry .args .t .now)) (entry .args .s) (kin-at .ensures .0) (leader-of .ensures .0)) (below .ensures) (user-sp .ensures) (ap (λ (b : Start). b .name) (start-at .ensures))
+    (c .make-runnable .ensures ∙ ap (onCore (publish _)) (c .before .before .join-group .ensures ∙ ap (onBooks (joinGroup _)) (fill .ensures)))
 
 pub thread-in-spec : {M : Type 1} → statement M
 thread-in-spec =

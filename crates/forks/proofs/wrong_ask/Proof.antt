@@ -11,30 +11,51 @@ sub-if1 c = search needs
 
 returns : tie.Need-returns
 unfolding addressTop pageSize
-returns c = ask-past (c .before .before .args .a) (c .before .before .args .size) (omega (arith, c .if1 .taken))
+returns c =
+    let entry = c .before .before in
+    ask-past (entry .args .a) (entry .args .size) (omega (arith, c .if1 .taken))
 
 returns-2 : tie.Need-returns-2
 unfolding addressTop pageSize
-returns-2 c = ask-crooked (c .before .before .before .before .args .a) (c .before .before .before .before .args .size) (omega (arith, c .before .before .if1 .left)) (ne-eqb _ _ (c .if2 .taken))
+returns-2 c =
+    let entry = c .before .before .before .before in
+    ask-crooked (entry .args .a) (entry .args .size) (omega (arith, c .before .before .if1 .left)) (ne-eqb _ _ (c .if2 .taken))
 
 add-if3 : tie.Need-add-if3
 add-if3 c = search needs
 
 returns-3 : tie.Need-returns-3
 unfolding addressTop pageSize
-returns-3 c = ask-high (c .before .before .before .before .before .before .args .a) (c .before .before .before .before .before .before .args .size) (omega (arith, c .before .before .before .before .if1 .left)) (c .before .before .if2 .left) (c .if3 .taken)
+returns-3 c =
+    let entry = c .before .before .before .before .before .before in
+    let if1 = c .before .before .before .before .if1 in
+    ask-high (entry .args .a) (entry .args .size) (omega (arith, if1 .left)) (c .before .before .if2 .left) (c .if3 .taken)
 
 returns-4 : tie.Need-returns-4
 unfolding addressTop pageSize
-returns-4 c = ask-entry (c .before .before .before .before .before .before .before .before .args .a) (c .before .before .before .before .before .before .before .before .args .size) (omega (arith, c .before .before .before .before .before .before .if1 .left)) (c .before .before .before .before .if2 .left) (c .before .before .if3 .left) (c .if4 .taken)
+returns-4 c =
+    let entry = c .before .before .before .before .before .before .before .before in
+    let if1 = c .before .before .before .before .before .before .if1 in
+    let if2 = c .before .before .before .before .if2 in
+    ask-entry (entry .args .a) (entry .args .size) (omega (arith, if1 .left)) (if2 .left) (c .before .before .if3 .left) (c .if4 .taken)
 
 returns-5 : tie.Need-returns-5
 unfolding addressTop pageSize
-returns-5 c = ask-ret (c .before .before .before .before .before .before .before .before .before .before .args .a) (c .before .before .before .before .before .before .before .before .before .before .args .size) (omega (arith, c .before .before .before .before .before .before .before .before .if1 .left)) (c .before .before .before .before .before .before .if2 .left) (c .before .before .before .before .if3 .left) (c .before .before .if4 .left) (c .if5 .taken)
+returns-5 c =
+    let entry = c .before .before .before .before .before .before .before .before .before .before in
+    let if1 = c .before .before .before .before .before .before .before .before .if1 in
+    let if2 = c .before .before .before .before .before .before .if2 in
+    let if3 = c .before .before .before .before .if3 in
+    ask-ret (entry .args .a) (entry .args .size) (omega (arith, if1 .left)) (if2 .left) (if3 .left) (c .before .before .if4 .left) (c .if5 .taken)
 
 returns-6 : tie.Need-returns-6
 unfolding addressTop pageSize
-returns-6 c = ask-right (c .before .before .before .before .before .before .before .before .before .before .args .a) (c .before .before .before .before .before .before .before .before .before .before .args .size) (omega (arith, c .before .before .before .before .before .before .before .before .if1 .left)) (c .before .before .before .before .before .before .if2 .left) (c .before .before .before .before .if3 .left) (c .before .before .if4 .left) (c .if5 .left)
+returns-6 c =
+    let entry = c .before .before .before .before .before .before .before .before .before .before in
+    let if1 = c .before .before .before .before .before .before .before .before .if1 in
+    let if2 = c .before .before .before .before .before .before .if2 in
+    let if3 = c .before .before .before .before .if3 in
+    ask-right (entry .args .a) (entry .args .size) (omega (arith, if1 .left)) (if2 .left) (if3 .left) (c .before .before .if4 .left) (c .if5 .left)
 
 pub wrong-ask-spec : {M : Type 1} → statement M
 wrong-ask-spec =

@@ -17,13 +17,19 @@ enum-told : tie.Need-enum-told
 enum-told c = search needs
 
 returns : tie.Need-returns
-returns c = by-alone (tableOf (c .before .before .before .before .args .t .now)) (c .before .before .before .before .args .count) (c .before .before .before .before .args .memory) (c .before .before .before .before .args .s) ((cc) ∙ ap (λ (k : Kin). k .group) (c .before .before .kin-at .ensures .0))
+returns c =
+    let entry = c .before .before .before .before in
+    by-alone (tableOf (entry .args .t .now)) (entry .args .count) (entry .args .memory) (entry .args .s) ((cc) ∙ ap (λ (k : Kin). k .group) (c .before .before .kin-at .ensures .0))
 
 group-at-requires : tie.Need-group-at-requires
-group-at-requires c κs = subst InGroups (c .before .before .group .given .1) (c .before .before .before .before .kin-at .ensures .1)
+group-at-requires c κs =
+    let kin-at = c .before .before .before .before .kin-at in
+    subst InGroups (c .before .before .group .given .1) (kin-at .ensures .1)
 
 new-size-requires : tie.Need-new-size-requires
-new-size-requires c κs = rw (c .group-at .ensures) (c .before .before .before .before .before .before .before .pre .1 .counted .top _)
+new-size-requires c κs =
+    let entry = c .before .before .before .before .before .before .before in
+    rw (c .group-at .ensures) (entry .pre .1 .counted .top _)
 
 enum-known-n : tie.Need-enum-known-n
 enum-known-n c = search needs
@@ -32,19 +38,46 @@ enum-told-2 : tie.Need-enum-told-2
 enum-told-2 c = search needs
 
 returns-2 : tie.Need-returns-2
-returns-2 c = by-out (tableOf (c .before .before .before .before .before .before .before .before .before .before .args .t .now)) (c .before .before .before .before .before .before .before .before .before .before .args .count) (c .before .before .before .before .before .before .before .before .before .before .args .memory) (c .before .before .before .before .before .before .before .before .before .before .args .s) (toZ-ofZ (c .before .before .before .before .before .before .before .before .before .before .fits .count)) (sym (c .before .before .before .before .before .before .group .given .1) ∙ ap (λ (k : Kin). k .group) (c .before .before .before .before .before .before .before .before .kin-at .ensures .0)) (c .before .before .before .group-at .ensures) (c .before .before .new-size .result) (c .before .before .new-size .ensures) (cc)
+returns-2 c =
+    let entry = c .before .before .before .before .before .before .before .before .before .before in
+    let fits = c .before .before .before .before .before .before .before .before .before .before .fits in
+    let kin-at = c .before .before .before .before .before .before .before .before .kin-at in
+    let group = c .before .before .before .before .before .before .group in
+    let group-at = c .before .before .before .group-at in
+    let new-size = c .before .before .new-size in
+    by-out (tableOf (entry .args .t .now)) (entry .args .count) (entry .args .memory) (entry .args .s) (toZ-ofZ (fits .count)) (sym (group .given .1) ∙ ap (λ (k : Kin). k .group) (kin-at .ensures .0)) (group-at .ensures) (new-size .result) (new-size .ensures) (cc)
 
 no-memory-requires : tie.Need-no-memory-requires
 no-memory-requires c κs = search needs
 
 returns-3 : tie.Need-returns-3
-returns-3 c = by-no-memory (tableOf (c .before .before .before .before .before .before .before .before .before .before .before .before .before .args .t .now)) (c .before .before .before .before .before .before .before .before .before .before .before .before .before .args .count) (c .before .before .before .before .before .before .before .before .before .before .before .before .before .args .memory) (c .before .before .before .before .before .before .before .before .before .before .before .before .before .args .s) (toZ-ofZ (c .before .before .before .before .before .before .before .before .before .before .before .before .before .fits .count)) (sym (c .before .before .before .before .before .before .before .before .before .group .given .1) ∙ ap (λ (k : Kin). k .group) (c .before .before .before .before .before .before .before .before .before .before .before .kin-at .ensures .0)) (c .before .before .before .before .before .before .group-at .ensures) (c .before .before .before .before .before .new-size .result) (c .before .before .before .before .before .new-size .ensures) (sym (c .before .before .before .n .given .1)) (c .before .no-memory .ensures) (c .if1 .taken)
+returns-3 c =
+    let entry = c .before .before .before .before .before .before .before .before .before .before .before .before .before in
+    let fits = c .before .before .before .before .before .before .before .before .before .before .before .before .before .fits in
+    let kin-at = c .before .before .before .before .before .before .before .before .before .before .before .kin-at in
+    let group = c .before .before .before .before .before .before .before .before .before .group in
+    let group-at = c .before .before .before .before .before .before .group-at in
+    let new-size = c .before .before .before .before .before .new-size in
+    let n = c .before .before .before .n in
+    by-no-memory (tableOf (entry .args .t .now)) (entry .args .count) (entry .args .memory) (entry .args .s) (toZ-ofZ (fits .count)) (sym (group .given .1) ∙ ap (λ (k : Kin). k .group) (kin-at .ensures .0)) (group-at .ensures) (new-size .result) (new-size .ensures) (sym (n .given .1)) (c .before .no-memory .ensures) (c .if1 .taken)
 
 set-group-requires : tie.Need-set-group-requires
-set-group-requires c κs = subst InGroups (c .before .before .before .before .before .before .before .before .before .before .group .given .1) (c .before .before .before .before .before .before .before .before .before .before .before .before .kin-at .ensures .1)
+set-group-requires c κs =
+    let kin-at = c .before .before .before .before .before .before .before .before .before .before .before .before .kin-at in
+    let group = c .before .before .before .before .before .before .before .before .before .before .group in
+    subst InGroups (group .given .1) (kin-at .ensures .1)
 
 returns-4 : tie.Need-returns-4
-returns-4 c = by-done (tableOf (c .before .before .before .before .before .before .before .before .before .before .before .before .before .before .before .args .t .now)) (c .before .before .before .before .before .before .before .before .before .before .before .before .before .before .before .args .count) (c .before .before .before .before .before .before .before .before .before .before .before .before .before .before .before .args .memory) (c .before .before .before .before .before .before .before .before .before .before .before .before .before .before .before .args .s) (toZ-ofZ (c .before .before .before .before .before .before .before .before .before .before .before .before .before .before .before .fits .count)) (sym (c .before .before .before .before .before .before .before .before .before .before .before .group .given .1) ∙ ap (λ (k : Kin). k .group) (c .before .before .before .before .before .before .before .before .before .before .before .before .before .kin-at .ensures .0)) (c .before .before .before .before .before .before .before .before .group-at .ensures) (c .before .before .before .before .before .before .before .new-size .result) (c .before .before .before .before .before .before .before .new-size .ensures) (sym (c .before .before .before .before .before .n .given .1)) (c .before .before .before .no-memory .ensures) (c .before .before .if1 .left) (c .set-group .ensures)
+returns-4 c =
+    let entry = c .before .before .before .before .before .before .before .before .before .before .before .before .before .before .before in
+    let fits = c .before .before .before .before .before .before .before .before .before .before .before .before .before .before .before .fits in
+    let kin-at = c .before .before .before .before .before .before .before .before .before .before .before .before .before .kin-at in
+    let group = c .before .before .before .before .before .before .before .before .before .before .before .group in
+    let group-at = c .before .before .before .before .before .before .before .before .group-at in
+    let new-size = c .before .before .before .before .before .before .before .new-size in
+    let n = c .before .before .before .before .before .n in
+    let no-memory = c .before .before .before .no-memory in
+    by-done (tableOf (entry .args .t .now)) (entry .args .count) (entry .args .memory) (entry .args .s) (toZ-ofZ (fits .count)) (sym (group .given .1) ∙ ap (λ (k : Kin). k .group) (kin-at .ensures .0)) (group-at .ensures) (new-size .result) (new-size .ensures) (sym (n .given .1)) (no-memory .ensures) (c .before .before .if1 .left) (c .set-group .ensures)
 
 pub grow-by-spec : {M : Type 1} → statement M
 grow-by-spec =

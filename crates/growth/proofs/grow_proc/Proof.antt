@@ -18,13 +18,24 @@ enum-known-c-2 : tie.Need-enum-known-c-2
 enum-known-c-2 c = search needs
 
 grow-by-requires : tie.Need-grow-by-requires
-grow-by-requires c κs = (subst (InHart _) (c .before .before .c2 .given .1) (c .before .before .before .before .caller-on .ensures .1) .0, c .before .before .before .before .before .before .pre)
+grow-by-requires c κs =
+    let entry = c .before .before .before .before .before .before in
+    let caller-on = c .before .before .before .before .caller-on in
+    (subst (InHart _) (c .before .before .c2 .given .1) (caller-on .ensures .1) .0, entry .pre)
 
 returns : tie.Need-returns
-returns c = did (c .before .before .before .before .before .pre) (grow-no (tableOf (c .before .before .before .before .before .args .t .now)) _ _ _ _ (sym (c .before .c .given .1) ∙ c .before .before .before .caller-on .ensures .0))
+returns c =
+    let entry = c .before .before .before .before .before in
+    let caller-on = c .before .before .before .caller-on in
+    did (entry .pre) (grow-no (tableOf (entry .args .t .now)) _ _ _ _ (sym (c .before .c .given .1) ∙ caller-on .ensures .0))
 
 returns-2 : tie.Need-returns-2
-returns-2 c = did (c .before .before .before .before .before .before .before .pre) (grow-is (tableOf (c .before .before .before .before .before .before .before .args .t .now)) _ _ _ (toZ-ofZ (c .before .before .before .before .before .before .before .fits .count)) (sym (c .before .before .before .c2 .given .1) ∙ c .before .before .before .before .before .caller-on .ensures .0) (c .grow-by .ensures))
+returns-2 c =
+    let entry = c .before .before .before .before .before .before .before in
+    let fits = c .before .before .before .before .before .before .before .fits in
+    let caller-on = c .before .before .before .before .before .caller-on in
+    let c2 = c .before .before .before .c2 in
+    did (entry .pre) (grow-is (tableOf (entry .args .t .now)) _ _ _ (toZ-ofZ (fits .count)) (sym (c2 .given .1) ∙ caller-on .ensures .0) (c .grow-by .ensures))
 
 pub grow-proc-spec : {M : Type 1} → statement M
 grow-proc-spec =

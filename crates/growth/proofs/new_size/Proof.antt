@@ -15,7 +15,9 @@ lowered-requires : tie.Need-lowered-requires
 lowered-requires c κs = search needs
 
 returns : tie.Need-returns
-returns c = c .lowered .ensures ∙ less-size (c .before .before .args .count) (c .before .before .fits .count) (c .before .if1 .taken) (c .before .before .args .size)
+returns c =
+    let entry = c .before .before in
+    c .lowered .ensures ∙ less-size (entry .args .count) (c .before .before .fits .count) (c .before .if1 .taken) (entry .args .size)
 
 cast-raised : tie.Need-cast-raised
 cast-raised c = more-cast (c .before .args .count) (c .before .fits .count) (c .if1 .left) tt
@@ -24,7 +26,9 @@ raised-requires : tie.Need-raised-requires
 raised-requires c κs = search needs
 
 returns-2 : tie.Need-returns-2
-returns-2 c = c .raised .ensures ∙ more-size (c .before .before .args .count) (c .before .before .fits .count) (c .before .if1 .left) (c .before .before .args .size)
+returns-2 c =
+    let entry = c .before .before in
+    c .raised .ensures ∙ more-size (entry .args .count) (c .before .before .fits .count) (c .before .if1 .left) (entry .args .size)
 
 pub new-size-spec : {M : Type 1} → statement M
 new-size-spec =

@@ -11,15 +11,22 @@ returns c = rw (le-ltb (c .before .args .a) 2 (c .if1 .taken))
 
 returns-2 : tie.Need-returns-2
 unfolding bits isFlag
-returns-2 c = rw (lt-ltb (c .before .before .args .a) 2 (c .before .if1 .left), le-ltb (c .before .before .args .b) 2 (c .if2 .taken))
+returns-2 c =
+    let entry = c .before .before in
+    rw (lt-ltb (entry .args .a) 2 (c .before .if1 .left), le-ltb (entry .args .b) 2 (c .if2 .taken))
 
 returns-3 : tie.Need-returns-3
 unfolding bits isFlag
-returns-3 c = rw (lt-ltb (c .before .before .before .args .a) 2 (c .before .before .if1 .left), lt-ltb (c .before .before .before .args .b) 2 (c .before .if2 .left), le-ltb (c .before .before .before .args .c) 2 (c .if3 .taken))
+returns-3 c =
+    let entry = c .before .before .before in
+    rw (lt-ltb (entry .args .a) 2 (c .before .before .if1 .left), lt-ltb (entry .args .b) 2 (c .before .if2 .left), le-ltb (entry .args .c) 2 (c .if3 .taken))
 
 returns-4 : tie.Need-returns-4
 unfolding bits isFlag
-returns-4 c = rw (lt-ltb (c .before .before .before .before .args .a) 2 (c .before .before .before .if1 .left), lt-ltb (c .before .before .before .before .args .b) 2 (c .before .before .if2 .left), lt-ltb (c .before .before .before .before .args .c) 2 (c .before .if3 .left), le-ltb (c .before .before .before .before .args .d) 2 (c .if4 .taken))
+returns-4 c =
+    let entry = c .before .before .before .before in
+    let if1 = c .before .before .before .if1 in
+    rw (lt-ltb (entry .args .a) 2 (if1 .left), lt-ltb (entry .args .b) 2 (c .before .before .if2 .left), lt-ltb (entry .args .c) 2 (c .before .if3 .left), le-ltb (entry .args .d) 2 (c .if4 .taken))
 
 mul-result : tie.Need-mul-result
 mul-result c = search needs
@@ -41,7 +48,10 @@ add-result-3 c = search needs
 
 returns-5 : tie.Need-returns-5
 unfolding bits isFlag
-returns-5 c = rw (lt-ltb (c .before .before .before .before .args .a) 2 (c .before .before .before .if1 .left), lt-ltb (c .before .before .before .before .args .b) 2 (c .before .before .if2 .left), lt-ltb (c .before .before .before .before .args .c) 2 (c .before .if3 .left), lt-ltb (c .before .before .before .before .args .d) 2 (c .if4 .left))
+returns-5 c =
+    let entry = c .before .before .before .before in
+    let if1 = c .before .before .before .if1 in
+    rw (lt-ltb (entry .args .a) 2 (if1 .left), lt-ltb (entry .args .b) 2 (c .before .before .if2 .left), lt-ltb (entry .args .c) 2 (c .before .if3 .left), lt-ltb (entry .args .d) 2 (c .if4 .left))
 
 pub bits-spec : {M : Type 1} → statement M
 bits-spec =

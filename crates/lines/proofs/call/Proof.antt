@@ -23,14 +23,19 @@ same-length c = search needs
 
 returns : tie.Need-returns
 unfolding wordsOf
-returns c = rw (← c .before .before .before .before .before .before .flags-together .ensures, ← c .before .before .first .ensures) (cc)
+returns c =
+    let flags-together = c .before .before .before .before .before .before .flags-together in
+    rw (← flags-together .ensures, ← c .before .before .first .ensures) (cc)
 
 same-length-2 : tie.Need-same-length-2
 same-length-2 c = search needs
 
 returns-2 : tie.Need-returns-2
 unfolding wordsOf
-returns-2 c = rw (← c .before .before .before .before .before .before .before .flags-together .ensures, ← c .before .before .before .first .ensures, c .before .c .given .1)
+returns-2 c =
+    let flags-together = c .before .before .before .before .before .before .before .flags-together in
+    let first = c .before .before .before .first in
+    rw (← flags-together .ensures, ← first .ensures, c .before .c .given .1)
 
 pub call-spec : {M : Type 1} → statement M
 call-spec =

@@ -18,7 +18,11 @@ part-write-name-end : tie.Need-part-write-name-end
 part-write-name-end c = search needs
 
 write-name-requires : tie.Need-write-name-requires
-write-name-requires c κs = (rw (c .before .before .next .ensures .word) (c .before .before .before .before .before .before .before .pre .3 (is-spawn _ (c .before .before .before .match .keys1))), omega (arith, cut-short (c .before .before .next .ensures), c .before .before .before .before .before .before .before .pre .2))
+write-name-requires c κs =
+    let entry = c .before .before .before .before .before .before .before in
+    let match = c .before .before .before .match in
+    let next = c .before .before .next in
+    (rw (next .ensures .word) (entry .pre .3 (is-spawn _ (match .keys1))), omega (arith, cut-short (next .ensures), entry .pre .2))
 
 slice-read-t18 : tie.Need-slice-read-t18
 slice-read-t18 c = search needs
@@ -33,7 +37,11 @@ same-length : tie.Need-same-length
 same-length c = search needs
 
 returns : tie.Need-returns
-returns c = by-spawn _ _ _ _ (c .before .before .before .before .before .before .before .match .keys1) (c .before .before .before .before .before .before .next .ensures .word) (c .before .before .before .write-name .ensures)
+returns c =
+    let match = c .before .before .before .before .before .before .before .match in
+    let next = c .before .before .before .before .before .before .next in
+    let write-name = c .before .before .before .write-name in
+    by-spawn _ _ _ _ (match .keys1) (next .ensures .word) (write-name .ensures)
 
 returns-2 : tie.Need-returns-2
 returns-2 c = by-list _ _ _ (c .before .match .keys2)
@@ -48,7 +56,9 @@ same-length-2 : tie.Need-same-length-2
 same-length-2 c = search needs
 
 returns-5 : tie.Need-returns-5
-returns-5 c = by-call _ _ _ _ (c .before .before .before .before .match .rest .0 .0 .0 .1) (c .before .before .before .before .match .rest .0 .0 .1) (c .before .before .before .before .match .rest .0 .1) (c .before .before .before .before .match .rest .1) (c .before .before .call .ensures)
+returns-5 c =
+    let match = c .before .before .before .before .match in
+    by-call _ _ _ _ (match .rest .0 .0 .0 .1) (match .rest .0 .0 .1) (match .rest .0 .1) (match .rest .1) (c .before .before .call .ensures)
 
 pub command-spec : {M : Type 1} → statement M
 command-spec =

@@ -29,7 +29,10 @@ same-length c = search needs
 
 returns : tie.Need-returns
 unfolding flagsTogether isCommand
-returns c = rw (thread-is, eq-eqb (c .before .before .before .before .before .before .before .args .k) 5 (c .before .before .before .before .before .if1 .taken), c .bits .ensures)
+returns c =
+    let entry = c .before .before .before .before .before .before .before in
+    let if1 = c .before .before .before .before .before .if1 in
+    rw (thread-is, eq-eqb (entry .args .k) 5 (if1 .taken), c .bits .ensures)
 
 returns-2 : tie.Need-returns-2
 unfolding flagsTogether isCommand

@@ -11,13 +11,18 @@ next-requires : tie.Need-next-requires
 next-requires c κs = search needs
 
 returns : tie.Need-returns
-returns c = empty-passed (c .before .before .before .before .args .line .now) (omega (arith, cut-length (c .before .next .ensures), c .if1 .taken))
+returns c =
+    let entry = c .before .before .before .before in
+    empty-passed (entry .args .line .now) (omega (arith, cut-length (c .before .next .ensures), c .if1 .taken))
 
 shared-slice-read-if2 : tie.Need-shared-slice-read-if2
 shared-slice-read-if2 c = search needs
 
 returns-2 : tie.Need-returns-2
-returns-2 c = hash-passed (c .before .before .before .before .before .before .args .line .now) (cut-first (c .before .before .before .next .ensures) (c .before .before .if1 .left) ∙ c .if2 .taken)
+returns-2 c =
+    let entry = c .before .before .before .before .before .before in
+    let next = c .before .before .before .next in
+    hash-passed (entry .args .line .now) (cut-first (next .ensures) (c .before .before .if1 .left) ∙ c .if2 .taken)
 
 sub-find : tie.Need-sub-find
 sub-find c = search needs
@@ -32,7 +37,11 @@ find-requires : tie.Need-find-requires
 find-requires c κs = search needs
 
 returns-3 : tie.Need-returns-3
-returns-3 c = no-command (c .before .before .before .before .before .before .next .ensures) (c .before .find .ensures) (c .before .before .before .before .before .if1 .left) (c .before .before .before .if2 .left) (c .if3 .taken)
+returns-3 c =
+    let next = c .before .before .before .before .before .before .next in
+    let if1 = c .before .before .before .before .before .if1 in
+    let if2 = c .before .before .before .if2 in
+    no-command (next .ensures) (c .before .find .ensures) (if1 .left) (if2 .left) (c .if3 .taken)
 
 slice-aggregate-read : tie.Need-slice-aggregate-read
 slice-aggregate-read c = search needs
@@ -47,7 +56,11 @@ slice-aggregate-command : tie.Need-slice-aggregate-command
 slice-aggregate-command c = search needs
 
 command-requires : tie.Need-command-requires
-command-requires c κs = (c .before .before .before .before .before .before .before .before .before .before .before .before .before .next .ensures .ends, omega (arith, c .before .before .before .before .before .read .kept .1 .1 .1 .0), c .before .before .before .before .before .before .before .before .before .before .before .before .before .before .before .before .pre, name-there _ _ _ _ (told-by _ _ _ (c .before .before .before .before .before .read .result) All (cc) (c .before .before .before .before .before .read .ensures)))
+command-requires c κs =
+    let entry = c .before .before .before .before .before .before .before .before .before .before .before .before .before .before .before .before in
+    let next = c .before .before .before .before .before .before .before .before .before .before .before .before .before .next in
+    let read = c .before .before .before .before .before .read in
+    (next .ensures .ends, omega (arith, read .kept .1 .1 .1 .0), entry .pre, name-there _ _ _ _ (told-by _ _ _ (read .result) All (cc) (read .ensures)))
 
 enum-known-why : tie.Need-enum-known-why
 enum-known-why c = search needs
@@ -56,10 +69,25 @@ same-length : tie.Need-same-length
 same-length c = search needs
 
 returns-4 : tie.Need-returns-4
-returns-4 c = c .before .before .before .command .ensures ∙ told-all _ _ _ _ (told-by _ _ _ (c .before .before .before .before .before .before .before .before .before .read .result) All (cc) (c .before .before .before .before .before .before .before .before .before .read .ensures)) ∙ a-command (c .before .before .before .before .before .before .before .before .before .before .before .before .before .before .before .before .before .next .ensures) (c .before .before .before .before .before .before .before .before .before .before .before .before .find .ensures) (c .before .before .before .before .before .before .before .before .before .before .before .before .before .before .before .before .if1 .left) (c .before .before .before .before .before .before .before .before .before .before .before .before .before .before .if2 .left) (c .before .before .before .before .before .before .before .before .before .before .before .if3 .left)
+returns-4 c =
+    let next = c .before .before .before .before .before .before .before .before .before .before .before .before .before .before .before .before .before .next in
+    let if1 = c .before .before .before .before .before .before .before .before .before .before .before .before .before .before .before .before .if1 in
+    let if2 = c .before .before .before .before .before .before .before .before .before .before .before .before .before .before .if2 in
+    let find = c .before .before .before .before .before .before .before .before .before .before .before .before .find in
+    let if3 = c .before .before .before .before .before .before .before .before .before .before .before .if3 in
+    let read = c .before .before .before .before .before .before .before .before .before .read in
+    let command = c .before .before .before .command in
+    command .ensures ∙ told-all _ _ _ _ (told-by _ _ _ (read .result) All (cc) (read .ensures)) ∙ a-command (next .ensures) (find .ensures) (if1 .left) (if2 .left) (if3 .left)
 
 returns-5 : tie.Need-returns-5
-returns-5 c = told-not _ _ _ _ _ (told-by _ _ _ (c .before .before .before .before .read .result) (Not _) (c .before .why .given .1) (c .before .before .before .before .read .ensures)) ∙ a-command (c .before .before .before .before .before .before .before .before .before .before .before .before .next .ensures) (c .before .before .before .before .before .before .before .find .ensures) (c .before .before .before .before .before .before .before .before .before .before .before .if1 .left) (c .before .before .before .before .before .before .before .before .before .if2 .left) (c .before .before .before .before .before .before .if3 .left)
+returns-5 c =
+    let next = c .before .before .before .before .before .before .before .before .before .before .before .before .next in
+    let if1 = c .before .before .before .before .before .before .before .before .before .before .before .if1 in
+    let if2 = c .before .before .before .before .before .before .before .before .before .if2 in
+    let find = c .before .before .before .before .before .before .before .find in
+    let if3 = c .before .before .before .before .before .before .if3 in
+    let read = c .before .before .before .before .read in
+    told-not _ _ _ _ _ (told-by _ _ _ (read .result) (Not _) (c .before .why .given .1) (read .ensures)) ∙ a-command (next .ensures) (find .ensures) (if1 .left) (if2 .left) (if3 .left)
 
 pub read-spec : {M : Type 1} → statement M
 read-spec =

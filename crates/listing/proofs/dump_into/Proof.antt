@@ -37,7 +37,8 @@ returns c =
 
 returns-2 : tie.Need-returns-2
 returns-2 c =
-    let e = sym (c .before .why .given .1) ∙ c .before .before .before .room-for .ensures in
+    let room-for = c .before .before .before .room-for in
+    let e = sym (c .before .why .given .1) ∙ room-for .ensures in
     (e, sym (unfit-buffer _ _ (short-told _ _ _ e)))
 
 pub dump-into-spec : {M : Type 1} → statement M

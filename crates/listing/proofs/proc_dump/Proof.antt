@@ -14,7 +14,8 @@ enum-known-n c = search needs
 
 slice-aggregate-result : tie.Need-slice-aggregate-result
 slice-aggregate-result c =
-    let d = c .before .before .before .before .before .before .dump-into in
+    let dump-into = c .before .before .before .before .before .before .dump-into in
+    let d = dump-into in
     let w = fit-front _ _ _ _ (sym (c .before .before .n .given .1) ∙ d .ensures .0) (d .ensures .1) in
     w .0 ∙ sym (ap length (w .1))
 
@@ -26,11 +27,14 @@ slice-aggregate-result-2 c = search needs
 
 returns : tie.Need-returns
 returns c =
-    let d = c .before .before .before .before .before .before .dump-into in
+    let dump-into = c .before .before .before .before .before .before .dump-into in
+    let d = dump-into in
     fit-front _ _ _ _ (sym (c .before .before .n .given .1) ∙ d .ensures .0) (d .ensures .1) .1
 
 returns-2 : tie.Need-returns-2
-returns-2 c = sym (unfit-part _ _ (short-told _ _ _ (sym (c .before .enum-told .given .1) ∙ c .before .before .before .before .before .dump-into .ensures .0)))
+returns-2 c =
+    let dump-into = c .before .before .before .before .before .dump-into in
+    sym (unfit-part _ _ (short-told _ _ _ (sym (c .before .enum-told .given .1) ∙ dump-into .ensures .0)))
 
 pub proc-dump-spec : {M : Type 1} → statement M
 proc-dump-spec =

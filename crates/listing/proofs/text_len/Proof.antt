@@ -37,7 +37,8 @@ loop-less c = omega arith
 
 loop-again : tie.Need-loop-again Inv-loop μ-loop
 loop-again c =
-    let t = c .before .before .before .args .t .now in
+    let entry = c .before .before .before in
+    let t = entry .args .t .now in
     let i = c .before .before .loop in
     let h : i .s < slotCount = unfold slotCount in omega arith in (
       omega arith,

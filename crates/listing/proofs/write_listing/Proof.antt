@@ -25,11 +25,15 @@ unfolding slotCount
 more c = omega arith
 
 abbrev table : tie.In-loop Inv-loop μ-loop → Table
-table c = tableOf (c .before .before .before .args .t .now)
+table c =
+    let entry = c .before .before .before in
+    tableOf (entry .args .t .now)
 
 room : (c : tie.In-loop Inv-loop μ-loop)
     → c .before .before .before .args .at + length (linesBelow (table c) (c .before .loop .s) ++ lineAt (table c) (c .before .loop .s)) ≤ length (c .before .before .before .args .buffer .now)
-room c = omega (arith, below-fits (table c) (c .before .loop .s) (omega (arith, more c, slots-count (c .before .before .before .args .t .now))), c .before .before .before .pre)
+room c =
+    let entry = c .before .before .before in
+    omega (arith, below-fits (table c) (c .before .loop .s) (omega (arith, more c, slots-count (entry .args .t .now))), entry .pre)
 
 loop-holds : tie.Need-loop-holds Inv-loop μ-loop
 loop-holds c = (omega arith, refl, rw below-none (wrote-none (c .before .args .buffer .now) (c .before .args .at) (omega (arith, c .before .pre))))
@@ -61,7 +65,8 @@ same-length c = c .before .loop .inv .1
 
 returns : tie.Need-returns Inv-loop μ-loop
 returns c =
-    let t = c .before .before .before .args .t .now in
+    let entry = c .before .before .before in
+    let t = entry .args .t .now in
     let i = c .before .loop in
     let h : slotCount ≤ i .s = unfold slotCount in omega arith in
     rw (← below-all (tableOf t) (i .s) (omega (arith, slots-count t))) (i .inv .2)

@@ -9,7 +9,9 @@ set-hart-requires : tie.Need-set-hart-requires
 set-hart-requires c κs = search needs
 
 returns : tie.Need-returns
-returns c = c .set-hart .ensures ∙ idle-law (tableOf (c .before .before .args .t .now)) (c .before .before .args .h)
+returns c =
+    let entry = c .before .before in
+    c .set-hart .ensures ∙ idle-law (tableOf (entry .args .t .now)) (entry .args .h)
 
 pub idle-spec : {M : Type 1} → statement M
 idle-spec = tie.close (tie.spec set-hart-requires returns)

@@ -15,11 +15,16 @@ set-meta-requires : tie.Need-set-meta-requires
 set-meta-requires c κs = search needs
 
 push-requires : tie.Need-push-requires
-push-requires c κs = (c .before .before .before .before .before .before .pre .0, rw (c .before .set-meta .ensures, change-queue) (c .before .before .before .before .before .before .pre .1))
+push-requires c κs =
+    let entry = c .before .before .before .before .before .before in
+    (entry .pre .0, rw (c .before .set-meta .ensures, change-queue) (entry .pre .1))
 
 returns : tie.Need-returns
-returns c = c .push .ensures ∙ ap (onCore (enqueue _)) (c .before .before .set-meta .ensures)
-    ∙ publish-law (tableOf (c .before .before .before .before .before .before .before .args .t .now)) (c .before .before .before .before .before .before .before .args .s) _ (ap asRunnable (c .before .before .before .before .before .meta-at .ensures))
+returns c =
+    let entry = c .before .before .before .before .before .before .before in
+    let meta-at = c .before .before .before .before .before .meta-at in
+    c .push .ensures ∙ ap (onCore (enqueue _)) (c .before .before .set-meta .ensures)
+    ∙ publish-law (tableOf (entry .args .t .now)) (entry .args .s) _ (ap asRunnable (meta-at .ensures))
 
 pub make-runnable-spec : {M : Type 1} → statement M
 make-runnable-spec = tie.close (tie.spec meta-at-requires set-meta-requires push-requires returns)

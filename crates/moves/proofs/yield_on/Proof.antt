@@ -9,10 +9,14 @@ idle-requires : tie.Need-idle-requires
 idle-requires c κs = search needs
 
 make-runnable-requires : tie.Need-make-runnable-requires
-make-runnable-requires c κs = (c .before .before .before .pre .1, rw (c .before .idle .ensures, idle-queue) (c .before .before .before .pre .2))
+make-runnable-requires c κs =
+    let entry = c .before .before .before in
+    (entry .pre .1, rw (c .before .idle .ensures, idle-queue) (entry .pre .2))
 
 returns : tie.Need-returns
-returns c = c .make-runnable .ensures ∙ yield-law (tableOf (c .before .before .before .before .args .t .now)) (c .before .before .before .before .args .h) (c .before .before .before .before .args .s) (c .before .before .idle .ensures)
+returns c =
+    let entry = c .before .before .before .before in
+    c .make-runnable .ensures ∙ yield-law (tableOf (entry .args .t .now)) (entry .args .h) (entry .args .s) (c .before .before .idle .ensures)
 
 pub yield-on-spec : {M : Type 1} → statement M
 yield-on-spec = tie.close (tie.spec idle-requires make-runnable-requires returns)

@@ -21,7 +21,9 @@ mul-w : tie.Need-mul-w Inv-loop μ-loop
 mul-w c = record { fits = built-mul (c .before .loop .inv) (c .loop-test .taken) }
 
 add-byte : tie.Need-add-byte Inv-loop μ-loop
-add-byte c = record { fits = omega (arith, c .before .before .before .pre, c .before .loop .inv .place) }
+add-byte c =
+    let entry = c .before .before .before in
+    record { fits = omega (arith, entry .pre, c .before .loop .inv .place) }
 
 byte-requires : tie.Need-byte-requires Inv-loop μ-loop
 byte-requires c κs = tt

@@ -19,7 +19,9 @@ abbrev μ-loop : tie.MeasureT-loop
 
 loop-holds : tie.Need-loop-holds Inv-loop μ-loop
 unfolding hexText
-loop-holds c = (omega arith, refl, wrote-none (c .before .before .args .out .now) (c .before .before .args .at) (omega arith), omega arith)
+loop-holds c =
+    let entry = c .before .before in
+    (omega arith, refl, wrote-none (entry .args .out .now) (entry .args .at) (omega arith), omega arith)
 
 shared-slice-read-hex-pair : tie.Need-shared-slice-read-hex-pair Inv-loop μ-loop
 shared-slice-read-hex-pair c = omega arith
@@ -40,13 +42,20 @@ loop-less : tie.Need-loop-less Inv-loop μ-loop
 loop-less c = omega arith
 
 loop-again : tie.Need-loop-again Inv-loop μ-loop
-loop-again c = (omega arith, wrote-long (c .before .before .write .ensures) ∙ c .before .before .before .before .before .before .before .before .loop .inv .1, rw (hex-more (c .before .before .before .before .before .before .before .before .before .before .before .args .name .now) (c .before .before .before .before .before .before .before .before .loop .i) (omega arith)) (wrote-more (c .before .before .before .before .before .before .before .before .loop .inv .2) (rw (c .before .before .before .before .before .hex-pair .ensures) at (c .before .before .write .ensures))), omega (arith, c .before .before .write .ensures .place))
+loop-again c =
+    let entry = c .before .before .before .before .before .before .before .before .before .before .before in
+    let loop = c .before .before .before .before .before .before .before .before .loop in
+    let hex-pair = c .before .before .before .before .before .hex-pair in
+    let write = c .before .before .write in
+    (omega arith, wrote-long (write .ensures) ∙ loop .inv .1, rw (hex-more (entry .args .name .now) (loop .i) (omega arith)) (wrote-more (loop .inv .2) (rw (hex-pair .ensures) at (write .ensures))), omega (arith, write .ensures .place))
 
 same-length : tie.Need-same-length Inv-loop μ-loop
 same-length c = c .before .loop .inv .1
 
 returns : tie.Need-returns Inv-loop μ-loop
-returns c = (rw (take-all (c .before .loop .i) (c .before .before .before .before .args .name .now) (omega arith)) at (c .before .loop .inv .2), omega arith)
+returns c =
+    let entry = c .before .before .before .before in
+    (rw (take-all (c .before .loop .i) (entry .args .name .now) (omega arith)) at (c .before .loop .inv .2), omega arith)
 
 pub write-hex-spec : {M : Type 1} → statement M
 write-hex-spec =

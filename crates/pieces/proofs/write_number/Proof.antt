@@ -11,7 +11,10 @@ same-length : tie.Need-same-length
 same-length c = search needs
 
 returns : tie.Need-returns
-returns c = (c .before .before .write .ensures, omega (arith, c .before .before .write .ensures .place, digits-length (c .before .before .before .before .before .args .n)))
+returns c =
+    let entry = c .before .before .before .before .before in
+    let write = c .before .before .write in
+    (write .ensures, omega (arith, write .ensures .place, digits-length (entry .args .n)))
 
 pub write-number-spec : {M : Type 1} → statement M
 write-number-spec = tie.close (tie.spec write-requires same-length returns)

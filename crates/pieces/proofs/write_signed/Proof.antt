@@ -10,13 +10,22 @@ slice-aggregate-write-field : tie.Need-slice-aggregate-write-field
 slice-aggregate-write-field c = search needs
 
 sub-write-field : tie.Need-sub-write-field
-sub-write-field c = less-fits (c .before .before .before .before .args .x) (c .before .before .before .before .fits .x) (c .before .before .if1 .taken)
+sub-write-field c =
+    let entry = c .before .before .before .before in
+    let fits = c .before .before .before .before .fits in
+    less-fits (entry .args .x) (fits .x) (c .before .before .if1 .taken)
 
 cast-write-field : tie.Need-cast-write-field
-cast-write-field c = less-cast (c .before .before .before .before .args .x) (c .before .before .before .before .fits .x) (c .before .before .if1 .taken) tt
+cast-write-field c =
+    let entry = c .before .before .before .before in
+    let fits = c .before .before .before .before .fits in
+    less-cast (entry .args .x) (fits .x) (c .before .before .if1 .taken) tt
 
 add-write-field : tie.Need-add-write-field
-add-write-field c = rw (less-is (c .before .before .before .before .args .x) (c .before .before .before .before .fits .x) (c .before .before .if1 .taken)) (omega (arith, c .before .before .before .before .fits .x .sfits))
+add-write-field c =
+    let entry = c .before .before .before .before in
+    let fits = c .before .before .before .before .fits in
+    rw (less-is (entry .args .x) (fits .x) (c .before .before .if1 .taken)) (omega (arith, fits .x .sfits))
 
 write-field-requires : tie.Need-write-field-requires
 write-field-requires c κs = search needs
@@ -29,7 +38,10 @@ unfolding bytes
 returns c = (rw (signed-low (c .before .before .before .before .before .before .before .args .x) (c .before .before .before .before .before .before .before .fits .x) (c .before .before .before .before .before .if1 .taken)) at (c .before .before .write-field .ensures .0), search needs)
 
 cast-write-number : tie.Need-cast-write-number
-cast-write-number c = more-cast (c .before .before .before .args .x) (c .before .before .before .fits .x) (c .before .if1 .left) tt
+cast-write-number c =
+    let entry = c .before .before .before in
+    let fits = c .before .before .before .fits in
+    more-cast (entry .args .x) (fits .x) (c .before .if1 .left) tt
 
 write-number-requires : tie.Need-write-number-requires
 write-number-requires c κs = search needs

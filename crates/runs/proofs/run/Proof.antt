@@ -16,7 +16,9 @@ least-requires : tie.Need-least-requires Inv-loop μ-loop
 least-requires c κs = search needs
 
 loop-holds : tie.Need-loop-holds Inv-loop μ-loop
-loop-holds c = begun _ _ _ _ _ (c .before .before .before .before .pre)
+loop-holds c =
+    let entry = c .before .before .before .before in
+    begun _ _ _ _ _ (entry .pre)
 
 mul-first : tie.Need-mul-first Inv-loop μ-loop
 mul-first c = search (needs, c .before .loop .inv .within)
@@ -40,31 +42,62 @@ enum-told : tie.Need-enum-told Inv-loop μ-loop
 enum-told c = search needs
 
 same-length : tie.Need-same-length Inv-loop μ-loop
-same-length c = c .before .before .before .before .before .loop .inv .long
+same-length c =
+    let loop = c .before .before .before .before .before .loop in
+    loop .inv .long
 
 returns : tie.Need-returns Inv-loop μ-loop
-returns c = ended _ _ _ _ _ (c .before .before .before .before .before .loop .inv) (c .before .before .before .before .before .before .least .ensures .0) (none-left _ _ _ _ _ (c .before .before .before .before .before .loop .inv) (first-none (c .before .before .before .before .before .before .before .before .before .before .args .calls .now) (c .before .before .before .before .before .loop .at) (c .before .before .first .result) (c .before .before .first .ensures) (cc)))
+returns c =
+    let entry = c .before .before .before .before .before .before .before .before .before .before in
+    let least = c .before .before .before .before .before .before .least in
+    let loop = c .before .before .before .before .before .loop in
+    let first = c .before .before .first in
+    ended _ _ _ _ _ (loop .inv) (least .ensures .0) (none-left _ _ _ _ _ (loop .inv) (first-none (entry .args .calls .now) (loop .at) (first .result) (first .ensures) (cc)))
 
 step-requires : tie.Need-step-requires Inv-loop μ-loop
-step-requires c κs = c .before .before .before .before .before .before .before .loop .inv .sound
+step-requires c κs =
+    let loop = c .before .before .before .before .before .before .before .loop in
+    loop .inv .sound
 
 write-requires : tie.Need-write-requires Inv-loop μ-loop
-write-requires c κs = room _ _ _ _ _ (c .before .before .before .before .before .before .before .before .before .loop .inv) (c .before .before .before .before .before .before .before .before .loop-test .taken) (most-fits (c .before .before .before .before .before .before .before .before .before .before .before .before .before .before .args .out .now) (c .before .before .before .before .before .before .before .before .before .before .least .ensures .1))
+write-requires c κs =
+    let entry = c .before .before .before .before .before .before .before .before .before .before .before .before .before .before in
+    let least = c .before .before .before .before .before .before .before .before .before .before .least in
+    let loop = c .before .before .before .before .before .before .before .before .before .loop in
+    let loop-test = c .before .before .before .before .before .before .before .before .loop-test in
+    room _ _ _ _ _ (loop .inv) (loop-test .taken) (most-fits (entry .args .out .now) (least .ensures .1))
 
 add-n : tie.Need-add-n Inv-loop μ-loop
 add-n c = omega arith
 
 add-at : tie.Need-add-at Inv-loop μ-loop
-add-at c = omega (arith, call-in _ _ _ _ _ (c .before .before .before .before .before .before .before .before .before .before .before .before .loop .inv) _ (first-call (c .before .before .before .before .before .before .before .before .before .before .before .before .before .before .before .before .before .args .calls .now) (c .before .before .before .before .before .before .before .before .before .before .before .before .loop .at) (c .before .before .before .before .before .before .before .before .before .first .result) (c .before .before .before .before .before .before .before .before .before .first .ensures) (c .before .before .before .before .before .before .before .c .given .1)))
+add-at c =
+    let entry = c .before .before .before .before .before .before .before .before .before .before .before .before .before .before .before .before .before in
+    let loop = c .before .before .before .before .before .before .before .before .before .before .before .before .loop in
+    let first = c .before .before .before .before .before .before .before .before .before .first in
+    omega (arith, call-in _ _ _ _ _ (loop .inv) _ (first-call (entry .args .calls .now) (loop .at) (first .result) (first .ensures) (c .before .before .before .before .before .before .before .c .given .1)))
 
 add-to : tie.Need-add-to Inv-loop μ-loop
-add-to c = omega (arith, room _ _ _ _ _ (c .before .before .before .before .before .before .before .before .before .before .before .before .loop .inv) (c .before .before .before .before .before .before .before .before .before .before .before .loop-test .taken) (most-fits (c .before .before .before .before .before .before .before .before .before .before .before .before .before .before .before .before .before .args .out .now) (c .before .before .before .before .before .before .before .before .before .before .before .before .before .least .ensures .1)))
+add-to c =
+    let entry = c .before .before .before .before .before .before .before .before .before .before .before .before .before .before .before .before .before in
+    let least = c .before .before .before .before .before .before .before .before .before .before .before .before .before .least in
+    let loop = c .before .before .before .before .before .before .before .before .before .before .before .before .loop in
+    let loop-test = c .before .before .before .before .before .before .before .before .before .before .before .loop-test in
+    omega (arith, room _ _ _ _ _ (loop .inv) (loop-test .taken) (most-fits (entry .args .out .now) (least .ensures .1)))
 
 loop-less : tie.Need-loop-less Inv-loop μ-loop
 loop-less c = omega arith
 
 loop-again : tie.Need-loop-again Inv-loop μ-loop
-loop-again c = next _ _ _ _ _ (c .before .before .before .before .before .before .before .before .before .before .before .before .loop .inv) _ (first-call (c .before .before .before .before .before .before .before .before .before .before .before .before .before .before .before .before .before .args .calls .now) (c .before .before .before .before .before .before .before .before .before .before .before .before .loop .at) (c .before .before .before .before .before .before .before .before .before .first .result) (c .before .before .before .before .before .before .before .before .before .first .ensures) (c .before .before .before .before .before .before .before .c .given .1)) (c .before .before .before .before .before .before .before .before .before .before .before .loop-test .taken) (most-fits (c .before .before .before .before .before .before .before .before .before .before .before .before .before .before .before .before .before .args .out .now) (c .before .before .before .before .before .before .before .before .before .before .before .before .before .least .ensures .1)) (c .before .before .before .before .step .ensures) (c .before .before .write .ensures) (c .before .before .write .kept .0)
+loop-again c =
+    let entry = c .before .before .before .before .before .before .before .before .before .before .before .before .before .before .before .before .before in
+    let least = c .before .before .before .before .before .before .before .before .before .before .before .before .before .least in
+    let loop = c .before .before .before .before .before .before .before .before .before .before .before .before .loop in
+    let loop-test = c .before .before .before .before .before .before .before .before .before .before .before .loop-test in
+    let first = c .before .before .before .before .before .before .before .before .before .first in
+    let step = c .before .before .before .before .step in
+    let write = c .before .before .write in
+    next _ _ _ _ _ (loop .inv) _ (first-call (entry .args .calls .now) (loop .at) (first .result) (first .ensures) (c .before .before .before .before .before .before .before .c .given .1)) (loop-test .taken) (most-fits (entry .args .out .now) (least .ensures .1)) (step .ensures) (write .ensures) (write .kept .0)
 
 same-length-2 : tie.Need-same-length-2 Inv-loop μ-loop
 same-length-2 c = c .before .loop .inv .long

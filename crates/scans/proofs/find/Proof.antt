@@ -28,8 +28,11 @@ pass-requires c κs = omega arith
 
 returns : tie.Need-returns Inv-loop μ-loop
 unfolding slotCount
-returns c = let w = c .before .before .before .before .args .t .now in
-    (sym (c .before .before .before .loop .inv .1 ∙ scan-here (passes (c .before .before .before .before .args .test)) (tableOf w .core .slots) free (c .before .before .before .loop .i) (omega (arith, slots-count w)) (sym (c .before .pass .ensures) ∙ c .if1 .taken)), omega arith)
+returns c =
+    let entry = c .before .before .before .before in
+    let loop = c .before .before .before .loop in
+    let w = entry .args .t .now in
+    (sym (loop .inv .1 ∙ scan-here (passes (entry .args .test)) (tableOf w .core .slots) free (loop .i) (omega (arith, slots-count w)) (sym (c .before .pass .ensures) ∙ c .if1 .taken)), omega arith)
 
 add-i : tie.Need-add-i Inv-loop μ-loop
 unfolding slotCount
@@ -41,13 +44,18 @@ loop-less c = omega arith
 
 loop-again : tie.Need-loop-again Inv-loop μ-loop
 unfolding slotCount
-loop-again c = let w = c .before .before .before .before .args .t .now in
-    (omega arith, c .before .before .before .loop .inv .1 ∙ scan-more (passes (c .before .before .before .before .args .test)) (tableOf w .core .slots) free (c .before .before .before .loop .i) (omega (arith, slots-count w)) (sym (c .before .pass .ensures) ∙ c .if1 .left))
+loop-again c =
+    let entry = c .before .before .before .before in
+    let loop = c .before .before .before .loop in
+    let w = entry .args .t .now in
+    (omega arith, loop .inv .1 ∙ scan-more (passes (entry .args .test)) (tableOf w .core .slots) free (loop .i) (omega (arith, slots-count w)) (sym (c .before .pass .ensures) ∙ c .if1 .left))
 
 returns-2 : tie.Need-returns-2 Inv-loop μ-loop
 unfolding slotCount
-returns-2 c = let w = c .before .before .args .t .now in
-    (sym (c .before .loop .inv .1 ∙ scan-none (passes (c .before .before .args .test)) (tableOf w .core .slots) free (c .before .loop .i) (omega (arith, slots-count w))), tt)
+returns-2 c =
+    let entry = c .before .before in
+    let w = entry .args .t .now in
+    (sym (c .before .loop .inv .1 ∙ scan-none (passes (entry .args .test)) (tableOf w .core .slots) free (c .before .loop .i) (omega (arith, slots-count w))), tt)
 
 pub find-spec : {M : Type 1} → statement M
 find-spec =

@@ -7,13 +7,17 @@ meta-at-requires : tie.Need-meta-at-requires
 meta-at-requires c κs = search needs
 
 returns : tie.Need-returns
-returns c = pid-other _ _ (c .before .before .before .before .meta-at .ensures) (c .if1 .taken)
+returns c =
+    let meta-at = c .before .before .before .before .meta-at in
+    pid-other _ _ (meta-at .ensures) (c .if1 .taken)
 
 is-requires : tie.Need-is-requires
 is-requires c κs = search needs
 
 returns-2 : tie.Need-returns-2
-returns-2 c = pid-same _ _ (c .before .before .before .before .before .meta-at .ensures) (c .before .if1 .left) (c .is .ensures)
+returns-2 c =
+    let meta-at = c .before .before .before .before .before .meta-at in
+    pid-same _ _ (meta-at .ensures) (c .before .if1 .left) (c .is .ensures)
 
 pub has-pid-spec : {M : Type 1} → statement M
 has-pid-spec = tie.close (tie.spec meta-at-requires returns is-requires returns-2)

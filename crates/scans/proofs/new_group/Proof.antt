@@ -31,11 +31,13 @@ group-at-requires c κs = omega arith
 
 returns : tie.Need-returns Inv-loop μ-loop
 unfolding newGroup slotCount groupCount
-returns c = let w = c .before .before .before .before .before .args .t .now in (
-  ap orZero (sym (c .before .before .before .before .loop .inv .1 ∙ scan-here emptyGroup (tableOf w .books .groups) noGroup (c .before .before .before .before .loop .g) (omega (arith, groups-count w))
-      (eq-eqb _ _ (ap (λ (x : Group). x .count) (sym (c .before .before .group-at .ensures)) ∙ c .if1 .taken)))),
-  omega arith,
-)
+returns c =
+    let entry = c .before .before .before .before .before in
+    let w = entry .args .t .now in (
+      ap orZero (sym (c .before .before .before .before .loop .inv .1 ∙ scan-here emptyGroup (tableOf w .books .groups) noGroup (c .before .before .before .before .loop .g) (omega (arith, groups-count w))
+          (eq-eqb _ _ (ap (λ (x : Group). x .count) (sym (c .before .before .group-at .ensures)) ∙ c .if1 .taken)))),
+      omega arith,
+    )
 
 add-g : tie.Need-add-g Inv-loop μ-loop
 unfolding slotCount
@@ -47,11 +49,13 @@ loop-less c = omega arith
 
 loop-again : tie.Need-loop-again Inv-loop μ-loop
 unfolding slotCount groupCount
-loop-again c = let w = c .before .before .before .before .before .args .t .now in (
-  omega arith,
-  c .before .before .before .before .loop .inv .1 ∙ scan-more emptyGroup (tableOf w .books .groups) noGroup (c .before .before .before .before .loop .g) (omega (arith, groups-count w))
-      (ne-eqb _ _ (λ e. c .if1 .left (ap (λ (x : Group). x .count) (c .before .before .group-at .ensures) ∙ e))),
-)
+loop-again c =
+    let entry = c .before .before .before .before .before in
+    let w = entry .args .t .now in (
+      omega arith,
+      c .before .before .before .before .loop .inv .1 ∙ scan-more emptyGroup (tableOf w .books .groups) noGroup (c .before .before .before .before .loop .g) (omega (arith, groups-count w))
+          (ne-eqb _ _ (λ e. c .if1 .left (ap (λ (x : Group). x .count) (c .before .before .group-at .ensures) ∙ e))),
+    )
 
 returns-2 : tie.Need-returns-2 Inv-loop μ-loop
 unfolding newGroup slotCount groupCount

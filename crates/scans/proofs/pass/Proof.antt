@@ -65,8 +65,10 @@ returns-5 c = cc
 
 returns-6 : tie.Need-returns-6
 unfolding passes
-returns-6 c = c .thread-named .ensures
-    ∙ ap (λ (x : Test). passes x (at (tableOf (c .before .before .before .before .args .t .now) .core) (c .before .before .before .before .args .i))) (sym (c .before .before .test5 .given .1))
+returns-6 c =
+    let entry = c .before .before .before .before in
+    c .thread-named .ensures
+    ∙ ap (λ (x : Test). passes x (at (tableOf (entry .args .t .now) .core) (entry .args .i))) (sym (c .before .before .test5 .given .1))
 
 pub pass-spec : {M : Type 1} → statement M
 pass-spec =

@@ -7,13 +7,17 @@ meta-at-requires : tie.Need-meta-at-requires
 meta-at-requires c κs = search needs
 
 returns : tie.Need-returns
-returns c = named-other _ _ (c .before .before .before .before .meta-at .ensures) _ (c .if1 .taken)
+returns c =
+    let meta-at = c .before .before .before .before .meta-at in
+    named-other _ _ (meta-at .ensures) _ (c .if1 .taken)
 
 thread-of-requires : tie.Need-thread-of-requires
 thread-of-requires c κs = search needs
 
 returns-2 : tie.Need-returns-2
-returns-2 c = named-thread _ _ (c .before .before .before .before .before .meta-at .ensures) _ (c .before .if1 .left) (c .thread-of .ensures)
+returns-2 c =
+    let meta-at = c .before .before .before .before .before .meta-at in
+    named-thread _ _ (meta-at .ensures) _ (c .before .if1 .left) (c .thread-of .ensures)
 
 pub thread-named-spec : {M : Type 1} → statement M
 thread-named-spec = tie.close (tie.spec meta-at-requires returns thread-of-requires returns-2)

@@ -19,7 +19,9 @@ enum-told : tie.Need-enum-told
 enum-told c = search needs
 
 returns-2 : tie.Need-returns-2
-returns-2 c = thread-asked-none _ _ (ap (λ (k : Kin). k .thread) (sym (c .before .before .before .before .kin-at .ensures .0)) ∙ not-false _ (c .before .before .if1 .left)) (cc)
+returns-2 c =
+    let kin-at = c .before .before .before .before .kin-at in
+    thread-asked-none _ _ (ap (λ (k : Kin). k .thread) (sym (kin-at .ensures .0)) ∙ not-false _ (c .before .before .if1 .left)) (cc)
 
 enum-known-group : tie.Need-enum-known-group
 enum-known-group c = search needs
@@ -28,11 +30,19 @@ enum-told-2 : tie.Need-enum-told-2
 enum-told-2 c = search needs
 
 returns-3 : tie.Need-returns-3
-returns-3 c = thread-in-none _ _ (ap (λ (k : Kin). k .thread) (sym (c .before .before .before .before .before .before .before .kin-at .ensures .0)) ∙ not-false _ (c .before .before .before .before .before .if1 .left)) (c .before .before .before .m .given .1) (cc)
+returns-3 c =
+    let kin-at = c .before .before .before .before .before .before .before .kin-at in
+    let if1 = c .before .before .before .before .before .if1 in
+    let m = c .before .before .before .m in
+    thread-in-none _ _ (ap (λ (k : Kin). k .thread) (sym (kin-at .ensures .0)) ∙ not-false _ (if1 .left)) (m .given .1) (cc)
 
 returns-4 : tie.Need-returns-4
-returns-4 c = thread-in _ _ (ap (λ (k : Kin). k .thread) (sym (c .before .before .before .before .before .before .before .before .kin-at .ensures .0)) ∙ not-false _ (c .before .before .before .before .before .before .if1 .left)) (c .before .before .before .before .m .given .1)
-    (ap (λ (k : Kin). k .group) (sym (c .before .before .before .before .before .before .before .before .kin-at .ensures .0)) ∙ c .before .group .given .1) refl
+returns-4 c =
+    let kin-at = c .before .before .before .before .before .before .before .before .kin-at in
+    let if1 = c .before .before .before .before .before .before .if1 in
+    let m = c .before .before .before .before .m in
+    thread-in _ _ (ap (λ (k : Kin). k .thread) (sym (kin-at .ensures .0)) ∙ not-false _ (if1 .left)) (m .given .1)
+    (ap (λ (k : Kin). k .group) (sym (kin-at .ensures .0)) ∙ c .before .group .given .1) refl
 
 pub thread-of-spec : {M : Type 1} → statement M
 thread-of-spec =

@@ -22,7 +22,9 @@ enum-told c = search needs
 
 returns-2 : tie.Need-returns-2
 unfolding hartCount
-returns-2 c = did (c .before .before .before .before .before .pre) (dispatch-busy (tableOf (c .before .before .before .before .before .args .t .now)) _ {s = c .enum-told .given .0 .0} (omega arith) (sym (c .before .before .hart-at .ensures .0) ∙ c .enum-told .given .1))
+returns-2 c =
+    let entry = c .before .before .before .before .before in
+    did (entry .pre) (dispatch-busy (tableOf (entry .args .t .now)) _ {s = c .enum-told .given .0 .0} (omega arith) (sym (c .before .before .hart-at .ensures .0) ∙ c .enum-told .given .1))
 
 enum-told-2 : tie.Need-enum-told-2
 enum-told-2 c = search needs
@@ -32,10 +34,15 @@ waiting-requires c κs = search needs
 
 returns-3 : tie.Need-returns-3
 unfolding hartCount
-returns-3 c = did (c .before .before .before .before .before .before .before .before .pre) (dispatch-empty (tableOf (c .before .before .before .before .before .before .before .before .args .t .now)) _ (omega arith) (sym (c .before .before .before .before .before .hart-at .ensures .0) ∙ cc) (omega arith))
+returns-3 c =
+    let entry = c .before .before .before .before .before .before .before .before in
+    let hart-at = c .before .before .before .before .before .hart-at in
+    did (entry .pre) (dispatch-empty (tableOf (entry .args .t .now)) _ (omega arith) (sym (hart-at .ensures .0) ∙ cc) (omega arith))
 
 pop-requires : tie.Need-pop-requires
-pop-requires c κs = (omega arith, queue-fits _ (c .before .before .before .before .before .before .before .before .before .pre .queued))
+pop-requires c κs =
+    let entry = c .before .before .before .before .before .before .before .before .before in
+    (omega arith, queue-fits _ (entry .pre .queued))
 
 run-on-requires : tie.Need-run-on-requires
 unfolding hartCount
@@ -43,7 +50,10 @@ run-on-requires c κs = (omega arith, c .before .pop .ensures .range)
 
 returns-4 : tie.Need-returns-4
 unfolding hartCount
-returns-4 c = did (c .before .before .before .before .before .before .before .before .before .before .before .before .pre) (dispatch-is (tableOf (c .before .before .before .before .before .before .before .before .before .before .before .before .args .t .now)) _ (omega arith) (sym (c .before .before .before .before .before .before .before .before .before .hart-at .ensures .0) ∙ cc) (c .before .before .pop .ensures) (c .run-on .ensures))
+returns-4 c =
+    let entry = c .before .before .before .before .before .before .before .before .before .before .before .before in
+    let hart-at = c .before .before .before .before .before .before .before .before .before .hart-at in
+    did (entry .pre) (dispatch-is (tableOf (entry .args .t .now)) _ (omega arith) (sym (hart-at .ensures .0) ∙ cc) (c .before .before .pop .ensures) (c .run-on .ensures))
 
 pub dequeue-runnable-spec : {M : Type 1} → statement M
 dequeue-runnable-spec =

@@ -18,13 +18,23 @@ enum-known-f : tie.Need-enum-known-f
 enum-known-f c = search needs
 
 slay-requires : tie.Need-slay-requires
-slay-requires c κs = (omega (arith, subst InRange (c .before .before .f .given .1) (c .before .before .before .before .find .ensures .1)), c .before .before .before .before .before .before .pre .queued)
+slay-requires c κs =
+    let entry = c .before .before .before .before .before .before in
+    let find = c .before .before .before .before .find in
+    (omega (arith, subst InRange (c .before .before .f .given .1) (find .ensures .1)), entry .pre .queued)
 
 returns : tie.Need-returns
-returns c = did (c .before .before .before .before .pre) (kill-no (tableOf (c .before .before .before .before .args .t .now)) (c .before .before .before .before .args .p) (c .before .before .find .result) (c .before .before .find .ensures .0) (cc))
+returns c =
+    let entry = c .before .before .before .before in
+    let find = c .before .before .find in
+    did (entry .pre) (kill-no (tableOf (entry .args .t .now)) (entry .args .p) (find .result) (find .ensures .0) (cc))
 
 returns-2 : tie.Need-returns-2
-returns-2 c = did (c .before .before .before .before .before .before .before .pre) (kill-is (tableOf (c .before .before .before .before .before .before .before .args .t .now)) (c .before .before .before .before .before .before .before .args .p) (c .before .before .before .before .before .find .result) (c .before .before .before .before .before .find .ensures .0) (sym (c .before .before .before .f .given .1)) (c .slay .ensures))
+returns-2 c =
+    let entry = c .before .before .before .before .before .before .before in
+    let find = c .before .before .before .before .before .find in
+    let f = c .before .before .before .f in
+    did (entry .pre) (kill-is (tableOf (entry .args .t .now)) (entry .args .p) (find .result) (find .ensures .0) (sym (f .given .1)) (c .slay .ensures))
 
 pub kill-spec : {M : Type 1} → statement M
 kill-spec =

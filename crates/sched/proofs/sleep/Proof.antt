@@ -20,17 +20,30 @@ enum-known-c-2 c = search needs
 
 returns : tie.Need-returns
 unfolding firstDevice slotCount
-returns c = did (c .before .before .before .before .before .before .pre) (sleep-low (tableOf (c .before .before .before .before .before .before .args .t .now)) _ _ (sym (c .before .before .c2 .given .1) ∙ c .before .before .before .before .caller-on .ensures .0) (omega arith))
+returns c =
+    let entry = c .before .before .before .before .before .before in
+    let caller-on = c .before .before .before .before .caller-on in
+    did (entry .pre) (sleep-low (tableOf (entry .args .t .now)) _ _ (sym (c .before .before .c2 .given .1) ∙ caller-on .ensures .0) (omega arith))
 
 sleep-on-requires : tie.Need-sleep-on-requires
-sleep-on-requires c κs = let k = subst (InHart _) (c .before .before .before .c2 .given .1) (c .before .before .before .before .before .caller-on .ensures .1) in (k .1, k .0)
+sleep-on-requires c κs =
+    let caller-on = c .before .before .before .before .before .caller-on in
+    let c2 = c .before .before .before .c2 in
+    let k = subst (InHart _) (c2 .given .1) (caller-on .ensures .1) in (k .1, k .0)
 
 returns-2 : tie.Need-returns-2
-returns-2 c = did (c .before .before .before .before .before .pre) (sleep-no (tableOf (c .before .before .before .before .before .args .t .now)) _ _ _ (sym (c .before .c .given .1) ∙ c .before .before .before .caller-on .ensures .0))
+returns-2 c =
+    let entry = c .before .before .before .before .before in
+    let caller-on = c .before .before .before .caller-on in
+    did (entry .pre) (sleep-no (tableOf (entry .args .t .now)) _ _ _ (sym (c .before .c .given .1) ∙ caller-on .ensures .0))
 
 returns-3 : tie.Need-returns-3
 unfolding firstDevice slotCount
-returns-3 c = did (c .before .before .before .before .before .before .before .before .pre) (sleep-is (tableOf (c .before .before .before .before .before .before .before .before .args .t .now)) _ _ (sym (c .before .before .before .before .c2 .given .1) ∙ c .before .before .before .before .before .before .caller-on .ensures .0) (omega arith) (c .sleep-on .ensures))
+returns-3 c =
+    let entry = c .before .before .before .before .before .before .before .before in
+    let caller-on = c .before .before .before .before .before .before .caller-on in
+    let c2 = c .before .before .before .before .c2 in
+    did (entry .pre) (sleep-is (tableOf (entry .args .t .now)) _ _ (sym (c2 .given .1) ∙ caller-on .ensures .0) (omega arith) (c .sleep-on .ensures))
 
 pub sleep-spec : {M : Type 1} → statement M
 sleep-spec =

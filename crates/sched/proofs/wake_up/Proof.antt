@@ -14,7 +14,9 @@ wake-up-requires c κs = c .before .before .pre .queued
 
 returns-2 : tie.Need-returns-2
 unfolding firstDevice slotCount
-returns-2 c = did (c .before .before .before .pre) (wake-is (tableOf (c .before .before .before .args .t .now)) _ (c .before .before .if1 .left) (c .wake-up .ensures))
+returns-2 c =
+    let entry = c .before .before .before in
+    did (entry .pre) (wake-is (tableOf (entry .args .t .now)) _ (c .before .before .if1 .left) (c .wake-up .ensures))
 
 pub wake-up-spec : {M : Type 1} → statement M
 wake-up-spec = tie.close (tie.spec returns wake-up-requires returns-2)

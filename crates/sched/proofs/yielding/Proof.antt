@@ -18,14 +18,25 @@ enum-known-c-2 : tie.Need-enum-known-c-2
 enum-known-c-2 c = search needs
 
 yield-on-requires : tie.Need-yield-on-requires
-yield-on-requires c κs = let k = subst (InHart _) (c .before .before .c2 .given .1) (c .before .before .before .before .caller-on .ensures .1) in
-    (omega (arith, k .1), k .0, caller-room _ (c .before .before .before .before .before .before .args .h) _ (c .before .before .before .before .before .before .pre .queued) (sym (c .before .before .c2 .given .1) ∙ c .before .before .before .before .caller-on .ensures .0))
+yield-on-requires c κs =
+    let entry = c .before .before .before .before .before .before in
+    let caller-on = c .before .before .before .before .caller-on in
+    let c2 = c .before .before .c2 in
+    let k = subst (InHart _) (c2 .given .1) (caller-on .ensures .1) in
+    (omega (arith, k .1), k .0, caller-room _ (entry .args .h) _ (entry .pre .queued) (sym (c2 .given .1) ∙ caller-on .ensures .0))
 
 returns : tie.Need-returns
-returns c = did (c .before .before .before .before .before .pre) (yield-no (tableOf (c .before .before .before .before .before .args .t .now)) _ _ (sym (c .before .c .given .1) ∙ c .before .before .before .caller-on .ensures .0))
+returns c =
+    let entry = c .before .before .before .before .before in
+    let caller-on = c .before .before .before .caller-on in
+    did (entry .pre) (yield-no (tableOf (entry .args .t .now)) _ _ (sym (c .before .c .given .1) ∙ caller-on .ensures .0))
 
 returns-2 : tie.Need-returns-2
-returns-2 c = did (c .before .before .before .before .before .before .before .pre) (yield-is (tableOf (c .before .before .before .before .before .before .before .args .t .now)) _ (sym (c .before .before .before .c2 .given .1) ∙ c .before .before .before .before .before .caller-on .ensures .0) (c .yield-on .ensures))
+returns-2 c =
+    let entry = c .before .before .before .before .before .before .before in
+    let caller-on = c .before .before .before .before .before .caller-on in
+    let c2 = c .before .before .before .c2 in
+    did (entry .pre) (yield-is (tableOf (entry .args .t .now)) _ (sym (c2 .given .1) ∙ caller-on .ensures .0) (c .yield-on .ensures))
 
 pub yielding-spec : {M : Type 1} → statement M
 yielding-spec =

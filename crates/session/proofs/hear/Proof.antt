@@ -13,10 +13,14 @@ abbrev μ-loop : tie.MeasureT-loop
 μ-loop t₀ line₀ name₀ out₀ len₀ number₀ at₀ turns₀ t line name out len number at turns = turns
 
 loop-holds : tie.Need-loop-holds Inv-loop μ-loop
-loop-holds c = opens _ _ _ _ refl (c .before .before .before .pre)
+loop-holds c =
+    let entry = c .before .before .before in
+    opens _ _ _ _ refl (entry .pre)
 
 listen-requires : tie.Need-listen-requires Inv-loop μ-loop
-listen-requires c κs = c .before .before .before .before .before .loop .inv .stand .heard .ready
+listen-requires c κs =
+    let loop = c .before .before .before .before .before .loop in
+    loop .inv .stand .heard .ready
 
 enum-known-q : tie.Need-enum-known-q Inv-loop μ-loop
 enum-known-q c = search needs
@@ -25,25 +29,44 @@ enum-known-q-2 : tie.Need-enum-known-q-2 Inv-loop μ-loop
 enum-known-q-2 c = search needs
 
 same-length : tie.Need-same-length Inv-loop μ-loop
-same-length c = c .before .before .before .before .before .before .before .before .before .listen .kept .1 .0 ∙ c .before .before .before .before .before .before .before .before .before .before .before .before .before .before .before .loop .inv .stand .line-same
+same-length c =
+    let loop = c .before .before .before .before .before .before .before .before .before .before .before .before .before .before .before .loop in
+    let listen = c .before .before .before .before .before .before .before .before .before .listen in
+    listen .kept .1 .0 ∙ loop .inv .stand .line-same
 
 same-length-2 : tie.Need-same-length-2 Inv-loop μ-loop
-same-length-2 c = c .before .before .before .before .before .before .before .before .before .listen .kept .1 .1 .0 ∙ c .before .before .before .before .before .before .before .before .before .before .before .before .before .before .before .loop .inv .stand .name-same
+same-length-2 c =
+    let loop = c .before .before .before .before .before .before .before .before .before .before .before .before .before .before .before .loop in
+    let listen = c .before .before .before .before .before .before .before .before .before .listen in
+    listen .kept .1 .1 .0 ∙ loop .inv .stand .name-same
 
 same-length-3 : tie.Need-same-length-3 Inv-loop μ-loop
-same-length-3 c = c .before .before .before .before .before .before .before .before .before .listen .kept .1 .1 .1 .0 ∙ c .before .before .before .before .before .before .before .before .before .before .before .before .before .before .before .loop .inv .stand .out-same
+same-length-3 c =
+    let loop = c .before .before .before .before .before .before .before .before .before .before .before .before .before .before .before .loop in
+    let listen = c .before .before .before .before .before .before .before .before .before .listen in
+    listen .kept .1 .1 .1 .0 ∙ loop .inv .stand .out-same
 
 returns : tie.Need-returns Inv-loop μ-loop
-returns c = some-heard _ _ _ _ (goes _ _ _ _ (c .before .before .before .before .before .before .before .before .before .before .before .before .before .before .before .loop .inv) (c .before .before .before .before .before .before .before .before .before .listen .kept .1 .0) (c .before .before .before .before .before .before .before .before .before .listen .kept .1 .1 .0) (c .before .before .before .before .before .before .before .before .before .listen .kept .1 .1 .1 .0) (ends-by _ _ _ _ _ (c .before .q2 .given .1) (c .before .before .before .before .before .before .before .before .before .listen .ensures)))
+returns c =
+    let loop = c .before .before .before .before .before .before .before .before .before .before .before .before .before .before .before .loop in
+    let listen = c .before .before .before .before .before .before .before .before .before .listen in
+    some-heard _ _ _ _ (goes _ _ _ _ (loop .inv) (listen .kept .1 .0) (listen .kept .1 .1 .0) (listen .kept .1 .1 .1 .0) (ends-by _ _ _ _ _ (c .before .q2 .given .1) (listen .ensures)))
 
 sub-turns : tie.Need-sub-turns Inv-loop μ-loop
-sub-turns c = omega (arith, c .before .before .before .before .before .before .before .before .before .before .before .before .before .before .loop-test)
+sub-turns c =
+    let loop-test = c .before .before .before .before .before .before .before .before .before .before .before .before .before .before .loop-test in
+    omega (arith, loop-test)
 
 loop-less : tie.Need-loop-less Inv-loop μ-loop
-loop-less c = omega (arith, c .before .before .before .before .before .before .before .before .before .before .before .before .before .before .loop-test)
+loop-less c =
+    let loop-test = c .before .before .before .before .before .before .before .before .before .before .before .before .before .before .loop-test in
+    omega (arith, loop-test)
 
 loop-again : tie.Need-loop-again Inv-loop μ-loop
-loop-again c = goes _ _ _ _ (c .before .before .before .before .before .before .before .before .before .before .before .before .before .before .before .loop .inv) (c .before .before .before .before .before .before .before .before .before .listen .kept .1 .0) (c .before .before .before .before .before .before .before .before .before .listen .kept .1 .1 .0) (c .before .before .before .before .before .before .before .before .before .listen .kept .1 .1 .1 .0) (goes-by _ _ _ _ _ (c .before .q .given .1) (c .before .before .before .before .before .before .before .before .before .listen .ensures))
+loop-again c =
+    let loop = c .before .before .before .before .before .before .before .before .before .before .before .before .before .before .before .loop in
+    let listen = c .before .before .before .before .before .before .before .before .before .listen in
+    goes _ _ _ _ (loop .inv) (listen .kept .1 .0) (listen .kept .1 .1 .0) (listen .kept .1 .1 .1 .0) (goes-by _ _ _ _ _ (c .before .q .given .1) (listen .ensures))
 
 same-length-4 : tie.Need-same-length-4 Inv-loop μ-loop
 same-length-4 c = c .before .loop .inv .stand .line-same

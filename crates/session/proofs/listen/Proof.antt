@@ -14,7 +14,9 @@ read-requires : tie.Need-read-requires
 read-requires c κs = search needs
 
 returns : tie.Need-returns
-returns c = none-heard _ _ _ _ _ refl (c .before .before .before .before .before .before .before .before .pre)
+returns c =
+    let entry = c .before .before .before .before .before .before .before .before in
+    none-heard _ _ _ _ _ refl (entry .pre)
 
 slice-aggregate-count : tie.Need-slice-aggregate-count
 slice-aggregate-count c = search needs

@@ -14,17 +14,23 @@ sub-if1 c = omega (arith, c .before .pre .0)
 
 returns : tie.Need-returns
 unfolding slotCount hartCount nameSize
-returns c = stays (c .before .before .args .at) (length (c .before .before .args .out .now)) (omega (arith, c .before .before .pre .0, c .if1 .taken))
+returns c =
+    let entry = c .before .before in
+    stays (entry .args .at) (length (entry .args .out .now)) (omega (arith, entry .pre .0, c .if1 .taken))
 
 slice-aggregate-write-all : tie.Need-slice-aggregate-write-all
-slice-aggregate-write-all c = sym (length-take-le (c .before .before .before .args .at) (c .before .before .before .args .out .now) (c .before .before .before .pre .1))
+slice-aggregate-write-all c =
+    let entry = c .before .before .before in
+    sym (length-take-le (entry .args .at) (entry .args .out .now) (entry .pre .1))
 
 write-all-requires : tie.Need-write-all-requires
 write-all-requires c κs = search needs
 
 returns-2 : tie.Need-returns-2
 unfolding slotCount hartCount nameSize
-returns-2 c = leaves (c .before .before .before .before .args .at) (length (c .before .before .before .before .args .out .now)) (c .before .before .before .before .pre .0) (omega (arith, c .before .before .before .before .pre .0, c .before .before .if1 .left))
+returns-2 c =
+    let entry = c .before .before .before .before in
+    leaves (entry .args .at) (length (entry .args .out .now)) (entry .pre .0) (omega (arith, entry .pre .0, c .before .before .if1 .left))
 
 pub make-room-spec : {M : Type 1} → statement M
 make-room-spec =

@@ -26,13 +26,15 @@ slice-aggregate-hear-3 c = search needs
 
 hear-requires : tie.Need-hear-requires
 unfolding slotCount hartCount nameSize
-hear-requires c κs = rw (c .before .before .before .before .start .ensures) record {
-  sound = c .before .before .before .before .before .before .before .new .ensures .1;
-  forLine = refl;
-  forName = omega arith;
-  len = omega arith;
-  forAnswer = omega (arith, c .before .before .before .before .before .large-buffer .ensures);
-}
+hear-requires c κs =
+    let start = c .before .before .before .before .start in
+    rw (start .ensures) record {
+      sound = c .before .before .before .before .before .before .before .new .ensures .1;
+      forLine = refl;
+      forName = omega arith;
+      len = omega arith;
+      forAnswer = omega (arith, c .before .before .before .before .before .large-buffer .ensures);
+    }
 
 slice-aggregate-close : tie.Need-slice-aggregate-close
 slice-aggregate-close c = search needs
@@ -50,7 +52,9 @@ array-share-prefix-out : tie.Need-array-share-prefix-out
 array-share-prefix-out c = search needs
 
 slice-aggregate-write-all : tie.Need-slice-aggregate-write-all
-slice-aggregate-write-all c = sym (length-take-le (c .before .before .before .close .result .at) (c .before .before .before .close .last .1 .1 .1 .0) (c .before .before .before .close .ensures .at))
+slice-aggregate-write-all c =
+    let close = c .before .before .before .close in
+    sym (length-take-le (close .result .at) (close .last .1 .1 .1 .0) (close .ensures .at))
 
 write-all-requires : tie.Need-write-all-requires
 write-all-requires c κs = search needs

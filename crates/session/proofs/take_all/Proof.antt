@@ -14,7 +14,9 @@ abbrev μ-loop : tie.MeasureT-loop
 μ-loop t₀ chunk line₀ name₀ out₀ len₀ number₀ at₀ done₀ t line name out len number at done = length chunk - done
 
 loop-holds : tie.Need-loop-holds Inv-loop μ-loop
-loop-holds c = begun _ _ _ _ _ refl (c .before .before .before .before .pre)
+loop-holds c =
+    let entry = c .before .before .before .before in
+    begun _ _ _ _ _ refl (entry .pre)
 
 sub-take : tie.Need-sub-take Inv-loop μ-loop
 sub-take c = omega (arith, c .before .loop-test)
@@ -26,19 +28,39 @@ part-take-end : tie.Need-part-take-end Inv-loop μ-loop
 part-take-end c = omega arith
 
 take-requires : tie.Need-take-requires Inv-loop μ-loop
-take-requires c κs = c .before .before .before .before .before .before .loop .inv .stand .heard .ready
+take-requires c κs =
+    let loop = c .before .before .before .before .before .before .loop in
+    loop .inv .stand .heard .ready
 
 make-room-requires : tie.Need-make-room-requires Inv-loop μ-loop
-make-room-requires c κs = room-made _ _ _ _ (c .before .before .before .before .before .before .before .before .before .before .before .before .before .before .before .loop .inv .stand) (c .before .before .before .before .before .before .before .before .take .ensures) (c .before .before .before .before .before .before .before .before .take .kept .1 .1 .1 .1 .0)
+make-room-requires c κs =
+    let loop = c .before .before .before .before .before .before .before .before .before .before .before .before .before .before .before .loop in
+    let take = c .before .before .before .before .before .before .before .before .take in
+    room-made _ _ _ _ (loop .inv .stand) (take .ensures) (take .kept .1 .1 .1 .1 .0)
 
 add-done : tie.Need-add-done Inv-loop μ-loop
-add-done c = omega (arith, c .before .before .before .before .before .before .before .before .before .before .before .before .before .before .before .before .before .before .before .before .before .before .good .1 .0, nearer _ _ _ _ (c .before .before .before .before .before .before .before .before .before .before .before .before .before .before .before .before .before .loop .inv .stand) (c .before .before .before .before .before .before .before .before .before .before .take .ensures) (c .before .before .before .before .before .before .before .before .before .before .take .kept .1 .1 .1 .1 .0) (c .before .before .before .before .before .before .before .before .before .before .before .before .before .before .before .before .before .before .before .before .before .before .args .chunk .now) (c .before .before .before .before .before .before .before .before .before .before .before .before .before .before .before .before .before .loop .done) (c .before .before .before .before .before .before .before .before .before .before .before .before .before .before .before .before .loop-test .taken) refl .1)
+add-done c =
+    let good = c .before .before .before .before .before .before .before .before .before .before .before .before .before .before .before .before .before .before .before .before .before .before .good in
+    let entry = c .before .before .before .before .before .before .before .before .before .before .before .before .before .before .before .before .before .before .before .before .before .before in
+    let loop = c .before .before .before .before .before .before .before .before .before .before .before .before .before .before .before .before .before .loop in
+    let loop-test = c .before .before .before .before .before .before .before .before .before .before .before .before .before .before .before .before .loop-test in
+    let take = c .before .before .before .before .before .before .before .before .before .before .take in
+    omega (arith, good .1 .0, nearer _ _ _ _ (loop .inv .stand) (take .ensures) (take .kept .1 .1 .1 .1 .0) (entry .args .chunk .now) (loop .done) (loop-test .taken) refl .1)
 
 loop-less : tie.Need-loop-less Inv-loop μ-loop
-loop-less c = omega (arith, nearer _ _ _ _ (c .before .before .before .before .before .before .before .before .before .before .before .before .before .before .before .before .before .loop .inv .stand) (c .before .before .before .before .before .before .before .before .before .before .take .ensures) (c .before .before .before .before .before .before .before .before .before .before .take .kept .1 .1 .1 .1 .0) (c .before .before .before .before .before .before .before .before .before .before .before .before .before .before .before .before .before .before .before .before .before .before .args .chunk .now) (c .before .before .before .before .before .before .before .before .before .before .before .before .before .before .before .before .before .loop .done) (c .before .before .before .before .before .before .before .before .before .before .before .before .before .before .before .before .loop-test .taken) refl)
+loop-less c =
+    let entry = c .before .before .before .before .before .before .before .before .before .before .before .before .before .before .before .before .before .before .before .before .before .before in
+    let loop = c .before .before .before .before .before .before .before .before .before .before .before .before .before .before .before .before .before .loop in
+    let loop-test = c .before .before .before .before .before .before .before .before .before .before .before .before .before .before .before .before .loop-test in
+    let take = c .before .before .before .before .before .before .before .before .before .before .take in
+    omega (arith, nearer _ _ _ _ (loop .inv .stand) (take .ensures) (take .kept .1 .1 .1 .1 .0) (entry .args .chunk .now) (loop .done) (loop-test .taken) refl)
 
 loop-again : tie.Need-loop-again Inv-loop μ-loop
-loop-again c = next _ _ _ _ (c .before .before .before .before .before .before .before .before .before .before .before .before .before .before .before .before .before .loop .inv) (c .before .before .before .before .before .before .before .before .before .before .take .ensures) (c .before .before .before .before .before .before .before .before .before .before .take .kept .1 .1 .1 .1 .0) (c .before .before .before .before .before .before .before .before .before .before .before .before .before .before .before .before .loop-test .taken) (c .before .before .before .before .before .before .before .before .before .before .take .kept .1 .1 .0) (c .before .before .before .before .before .before .before .before .before .before .take .kept .1 .1 .1 .0) (c .before .make-room .ensures .1)
+loop-again c =
+    let loop = c .before .before .before .before .before .before .before .before .before .before .before .before .before .before .before .before .before .loop in
+    let loop-test = c .before .before .before .before .before .before .before .before .before .before .before .before .before .before .before .before .loop-test in
+    let take = c .before .before .before .before .before .before .before .before .before .before .take in
+    next _ _ _ _ (loop .inv) (take .ensures) (take .kept .1 .1 .1 .1 .0) (loop-test .taken) (take .kept .1 .1 .0) (take .kept .1 .1 .1 .0) (c .before .make-room .ensures .1)
 
 same-length : tie.Need-same-length Inv-loop μ-loop
 same-length c = c .before .loop .inv .stand .line-same

@@ -26,7 +26,9 @@ write-place-requires : tie.Need-write-place-requires
 write-place-requires c κs = search needs
 
 write-queue-requires : tie.Need-write-queue-requires
-write-queue-requires c κs = (c .before .before .before .before .before .before .before .before .before .before .before .before .before .before .pre .0, omega arith)
+write-queue-requires c κs =
+    let entry = c .before .before .before .before .before .before .before .before .before .before .before .before .before .before in
+    (entry .pre .0, omega arith)
 
 write-harts-requires : tie.Need-write-harts-requires
 write-harts-requires c κs = search needs
@@ -42,7 +44,14 @@ same-length c = search needs
 
 returns : tie.Need-returns
 unfolding headText field place bytes
-returns c = (rw (c .before .before .before .before .before .before .before .before .before .before .before .before .before .before .before .before .before .before .before .before .before .before .pids .ensures, c .before .before .before .before .before .before .before .before .before .before .before .before .before .before .before .before .init .ensures .0) at (wrote-more (wrote-more (wrote-more (wrote-more (c .before .before .before .before .before .before .before .before .before .before .before .before .before .before .before .before .before .before .before .before .before .write-field .ensures .0) (c .before .before .before .before .before .before .before .before .before .before .before .before .before .before .before .write-place .ensures .0)) (c .before .before .before .before .before .before .before .before .before .before .before .write-queue .ensures .0)) (c .before .before .before .before .before .before .before .write-harts .ensures .0)) (c .before .before .write .ensures)), omega arith)
+returns c =
+    let pids = c .before .before .before .before .before .before .before .before .before .before .before .before .before .before .before .before .before .before .before .before .before .before .pids in
+    let write-field = c .before .before .before .before .before .before .before .before .before .before .before .before .before .before .before .before .before .before .before .before .before .write-field in
+    let init = c .before .before .before .before .before .before .before .before .before .before .before .before .before .before .before .before .init in
+    let write-place = c .before .before .before .before .before .before .before .before .before .before .before .before .before .before .before .write-place in
+    let write-queue = c .before .before .before .before .before .before .before .before .before .before .before .write-queue in
+    let write-harts = c .before .before .before .before .before .before .before .write-harts in
+    (rw (pids .ensures, init .ensures .0) at (wrote-more (wrote-more (wrote-more (wrote-more (write-field .ensures .0) (write-place .ensures .0)) (write-queue .ensures .0)) (write-harts .ensures .0)) (c .before .before .write .ensures)), omega arith)
 
 pub write-head-spec : {M : Type 1} → statement M
 write-head-spec =

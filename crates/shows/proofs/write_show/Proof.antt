@@ -17,7 +17,10 @@ same-length c = search needs
 
 returns : tie.Need-returns
 unfolding showText
-returns c = (wrote-more (c .before .before .before .before .before .before .write-head .ensures .0) (c .before .before .write-slots .ensures .0), omega (arith, c .before .before .before .before .before .before .write-head .ensures .1, c .before .before .write-slots .ensures .1))
+returns c =
+    let write-head = c .before .before .before .before .before .before .write-head in
+    let write-slots = c .before .before .write-slots in
+    (wrote-more (write-head .ensures .0) (write-slots .ensures .0), omega (arith, write-head .ensures .1, write-slots .ensures .1))
 
 pub write-show-spec : {M : Type 1} → statement M
 write-show-spec = tie.close (tie.spec write-head-requires write-slots-requires same-length returns)

@@ -18,7 +18,10 @@ enum-told : tie.Need-enum-told
 enum-told c = search needs
 
 returns : tie.Need-returns
-returns c = (rw (slot-none (tableOf (c .before .before .before .before .args .t .now)) (c .before .before .before .before .args .s) (c .before .before .meta-at .result) (c .before .before .meta-at .ensures) (c .enum-told .given .1)) (wrote-none (c .before .before .before .before .args .out .now) (c .before .before .before .before .args .at) (omega (arith, c .before .before .before .before .pre .1))), omega arith)
+returns c =
+    let entry = c .before .before .before .before in
+    let meta-at = c .before .before .meta-at in
+    (rw (slot-none (tableOf (entry .args .t .now)) (entry .args .s) (meta-at .result) (meta-at .ensures) (c .enum-told .given .1)) (wrote-none (entry .args .out .now) (entry .args .at) (omega (arith, entry .pre .1))), omega arith)
 
 slice-aggregate-write-field : tie.Need-slice-aggregate-write-field
 slice-aggregate-write-field c = search needs
@@ -48,7 +51,15 @@ same-length c = search needs
 
 returns-2 : tie.Need-returns-2
 unfolding usedText field bytes nameSize
-returns-2 c = (rw (slot-used (tableOf (c .before .before .before .before .before .before .before .before .before .before .before .before .before .before .before .before .before .before .before .before .before .before .before .before .before .args .t .now)) (c .before .before .before .before .before .before .before .before .before .before .before .before .before .before .before .before .before .before .before .before .before .before .before .before .before .args .s) (c .before .before .before .before .before .before .before .before .before .before .before .before .before .before .before .before .before .before .before .before .before .before .before .meta-at .result) (c .before .before .before .before .before .before .before .before .before .before .before .before .before .before .before .before .before .before .before .before .before .before .before .meta-at .ensures) (used (c .before .before .before .before .before .before .before .before .before .before .before .before .before .before .before .before .before .before .before .before .before .before .before .meta-at .result .state) (c .before .before .before .before .before .before .before .before .before .before .before .before .before .before .before .before .before .before .before .before .before .before .match .keys2))) (rw (c .before .before .before .before .before .before .before .before .before .before .before .before .before .before .before .before .before .before .before .before .before .before .before .meta-at .ensures) at (wrote-more (wrote-more (wrote-more (wrote-more (c .before .before .before .before .before .before .before .before .before .before .before .before .before .before .before .before .before .before .before .write-field .ensures .0) (c .before .before .before .before .before .before .before .before .before .before .before .before .before .before .before .write-meta .ensures .0)) (c .before .before .before .before .before .before .before .before .before .before .before .write-kin .ensures .0)) (c .before .before .before .before .before .before .before .write-start .ensures .0)) (c .before .before .write .ensures))), omega arith)
+returns-2 c =
+    let entry = c .before .before .before .before .before .before .before .before .before .before .before .before .before .before .before .before .before .before .before .before .before .before .before .before .before in
+    let meta-at = c .before .before .before .before .before .before .before .before .before .before .before .before .before .before .before .before .before .before .before .before .before .before .before .meta-at in
+    let match = c .before .before .before .before .before .before .before .before .before .before .before .before .before .before .before .before .before .before .before .before .before .before .match in
+    let write-field = c .before .before .before .before .before .before .before .before .before .before .before .before .before .before .before .before .before .before .before .write-field in
+    let write-meta = c .before .before .before .before .before .before .before .before .before .before .before .before .before .before .before .write-meta in
+    let write-kin = c .before .before .before .before .before .before .before .before .before .before .before .write-kin in
+    let write-start = c .before .before .before .before .before .before .before .write-start in
+    (rw (slot-used (tableOf (entry .args .t .now)) (entry .args .s) (meta-at .result) (meta-at .ensures) (used (meta-at .result .state) (match .keys2))) (rw (meta-at .ensures) at (wrote-more (wrote-more (wrote-more (wrote-more (write-field .ensures .0) (write-meta .ensures .0)) (write-kin .ensures .0)) (write-start .ensures .0)) (c .before .before .write .ensures))), omega arith)
 
 pub write-slot-spec : {M : Type 1} → statement M
 write-slot-spec =

@@ -18,7 +18,9 @@ loop-holds c = shown-none (tableOf (c .before .args .t .now)) (c .before .args .
 
 write-slot-requires : tie.Need-write-slot-requires Inv-loop μ-loop
 unfolding slotCount
-write-slot-requires c κs = (omega arith, shown-room (c .before .before .loop .inv) (omega arith) (c .before .before .before .before .pre))
+write-slot-requires c κs =
+    let entry = c .before .before .before .before in
+    (omega arith, shown-room (c .before .before .loop .inv) (omega arith) (entry .pre))
 
 add-s : tie.Need-add-s Inv-loop μ-loop
 unfolding slotCount
@@ -30,7 +32,10 @@ loop-less c = omega arith
 
 loop-again : tie.Need-loop-again Inv-loop μ-loop
 unfolding slotCount
-loop-again c = shown-next (c .before .before .before .before .before .loop .inv) (omega arith) (c .before .before .write-slot .ensures .0) (c .before .before .write-slot .ensures .1)
+loop-again c =
+    let loop = c .before .before .before .before .before .loop in
+    let write-slot = c .before .before .write-slot in
+    shown-next (loop .inv) (omega arith) (write-slot .ensures .0) (write-slot .ensures .1)
 
 same-length : tie.Need-same-length Inv-loop μ-loop
 same-length c = wrote-long (c .before .loop .inv .text)

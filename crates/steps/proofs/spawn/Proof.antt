@@ -28,7 +28,11 @@ spawn-system-thread-requires : tie.Need-spawn-system-thread-requires
 spawn-system-thread-requires c κs = search needs
 
 returns : tie.Need-returns
-returns c = by-piece (piece-law (c .before .before .before .before .before .before .args .text .now) (c .before .before .before .before .before .before .args .start) (c .before .before .before .before .before .before .args .len) (c .before .before .before .before .least .result) (c .before .before .before .least2 .result) (c .before .before .before .before .least .ensures .0) (c .before .before .before .least2 .ensures .0)) (c .spawn-system-thread .ensures)
+returns c =
+    let entry = c .before .before .before .before .before .before in
+    let least = c .before .before .before .before .least in
+    let least2 = c .before .before .before .least2 in
+    by-piece (piece-law (entry .args .text .now) (entry .args .start) (entry .args .len) (least .result) (least2 .result) (least .ensures .0) (least2 .ensures .0)) (c .spawn-system-thread .ensures)
 
 pub spawn-spec : {M : Type 1} → statement M
 spawn-spec =

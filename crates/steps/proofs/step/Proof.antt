@@ -103,52 +103,82 @@ grow-proc-requires : tie.Need-grow-proc-requires
 grow-proc-requires c κs = search needs
 
 returns : tie.Need-returns
-returns c = by-call _ Boot {c = c .before .before .before .before .before .args .c} (cc) (c .user-init .ensures)
+returns c =
+    let entry = c .before .before .before .before .before in
+    by-call _ Boot {c = entry .args .c} (cc) (c .user-init .ensures)
 
 returns-2 : tie.Need-returns-2
-returns-2 c = by-call _ Start {c = c .before .before .before .before .before .args .c} (cc) (c .start-init-process .ensures)
+returns-2 c =
+    let entry = c .before .before .before .before .before in
+    by-call _ Start {c = entry .args .c} (cc) (c .start-init-process .ensures)
 
 returns-3 : tie.Need-returns-3
 returns-3 c = by-call _ _ (c .before .before .before .c .given .1) (c .spawn .ensures)
 
 returns-4 : tie.Need-returns-4
-returns-4 c = by-call _ _ (c .before .before .before .c2 .given .1) (c .free-system-thread .ensures)
+returns-4 c =
+    let c2 = c .before .before .before .c2 in
+    by-call _ _ (c2 .given .1) (c .free-system-thread .ensures)
 
 returns-5 : tie.Need-returns-5
-returns-5 c = by-call _ _ (c .before .before .before .c3 .given .1) (c .fork .ensures)
+returns-5 c =
+    let c3 = c .before .before .before .c3 in
+    by-call _ _ (c3 .given .1) (c .fork .ensures)
 
 returns-6 : tie.Need-returns-6
-returns-6 c = by-call _ _ (c .before .before .before .c4 .given .1) (c .create-user-thread .ensures)
+returns-6 c =
+    let c4 = c .before .before .before .c4 in
+    by-call _ _ (c4 .given .1) (c .create-user-thread .ensures)
 
 returns-7 : tie.Need-returns-7
-returns-7 c = by-call _ _ (c .before .before .before .c5 .given .1) (c .dequeue-runnable .ensures)
+returns-7 c =
+    let c5 = c .before .before .before .c5 in
+    by-call _ _ (c5 .given .1) (c .dequeue-runnable .ensures)
 
 returns-8 : tie.Need-returns-8
-returns-8 c = by-call _ _ (c .before .before .before .c6 .given .1) (c .yielding .ensures)
+returns-8 c =
+    let c6 = c .before .before .before .c6 in
+    by-call _ _ (c6 .given .1) (c .yielding .ensures)
 
 returns-9 : tie.Need-returns-9
-returns-9 c = by-call _ _ (c .before .before .before .c7 .given .1) (c .sleep .ensures)
+returns-9 c =
+    let c7 = c .before .before .before .c7 in
+    by-call _ _ (c7 .given .1) (c .sleep .ensures)
 
 returns-10 : tie.Need-returns-10
-returns-10 c = by-call _ _ (c .before .before .before .c8 .given .1) (c .wake-up .ensures)
+returns-10 c =
+    let c8 = c .before .before .before .c8 in
+    by-call _ _ (c8 .given .1) (c .wake-up .ensures)
 
 returns-11 : tie.Need-returns-11
-returns-11 c = by-call _ _ (c .before .before .before .c9 .given .1) (c .kill .ensures)
+returns-11 c =
+    let c9 = c .before .before .before .c9 in
+    by-call _ _ (c9 .given .1) (c .kill .ensures)
 
 returns-12 : tie.Need-returns-12
-returns-12 c = by-call _ _ (c .before .before .before .c10 .given .1) (c .wait .ensures)
+returns-12 c =
+    let c10 = c .before .before .before .c10 in
+    by-call _ _ (c10 .given .1) (c .wait .ensures)
 
 returns-13 : tie.Need-returns-13
-returns-13 c = by-call _ _ (c .before .before .before .c11 .given .1) (c .join-user-thread .ensures)
+returns-13 c =
+    let c11 = c .before .before .before .c11 in
+    by-call _ _ (c11 .given .1) (c .join-user-thread .ensures)
 
 returns-14 : tie.Need-returns-14
-returns-14 c = by-call _ _ (c .before .before .before .c12 .given .1) (c .thread-exit .ensures)
+returns-14 c =
+    let c12 = c .before .before .before .c12 in
+    by-call _ _ (c12 .given .1) (c .thread-exit .ensures)
 
 returns-15 : tie.Need-returns-15
-returns-15 c = by-call _ _ (c .before .before .before .c13 .given .1) (c .exit .ensures)
+returns-15 c =
+    let c13 = c .before .before .before .c13 in
+    by-call _ _ (c13 .given .1) (c .exit .ensures)
 
 returns-16 : tie.Need-returns-16
-returns-16 c = by-grow _ (c .before .before .before .c14 .given .1) (toZ-ofZ (record { sfits = c .before .before .known-told14 .given .1 .0 .1 })) (c .grow-proc .ensures)
+returns-16 c =
+    let c14 = c .before .before .before .c14 in
+    by-grow _ (c14 .given .1) (toZ-ofZ (record { sfits = c .before .before .known-told14 .given .1 .0 .1 })) (c .grow-proc .ensures)
 
 pub step-spec : {M : Type 1} → statement M
 step-spec =

@@ -15,7 +15,9 @@ pids-requires c κs = search needs
 
 returns : tie.Need-returns
 unfolding pidTop
-returns c = let k = take-spent (tableOf (c .before .before .before .args .t .now)) (rw (c .before .pids .ensures) at (c .if1 .taken)) in (k .0, k .1, tt)
+returns c =
+    let entry = c .before .before .before in
+    let k = take-spent (tableOf (entry .args .t .now)) (rw (c .before .pids .ensures) at (c .if1 .taken)) in (k .0, k .1, tt)
 
 add-set-pids : tie.Need-add-set-pids
 add-set-pids c = search needs
@@ -34,17 +36,29 @@ enum-told c = search needs
 
 returns-2 : tie.Need-returns-2
 unfolding pidTop
-returns-2 c = let k = take-full (tableOf (c .before .before .before .before .before .before .before .before .before .args .t .now)) {u = tableOf (c .before .before .before .before .set-pids .last .0)} (rw (c .before .before .before .before .before .before .before .pids .ensures) at (c .before .before .before .before .before .before .if1 .left))
-    (unused-found (tableOf (c .before .before .before .before .before .before .before .before .before .args .t .now)) (tableOf (c .before .before .before .before .set-pids .last .0)) _ (c .before .before .find .result) Nothing (c .before .before .find .ensures .0) (c .before .before .before .before .set-pids .ensures) (cc))
-    (c .before .before .before .before .set-pids .ensures ∙ ap (λ (n : ℕ). onBooks (withPids (n + 1)) (tableOf (c .before .before .before .before .before .before .before .before .before .args .t .now))) (c .before .before .before .before .before .before .before .pids .ensures)) in
+returns-2 c =
+    let entry = c .before .before .before .before .before .before .before .before .before in
+    let pids = c .before .before .before .before .before .before .before .pids in
+    let if1 = c .before .before .before .before .before .before .if1 in
+    let set-pids = c .before .before .before .before .set-pids in
+    let find = c .before .before .find in
+    let k = take-full (tableOf (entry .args .t .now)) {u = tableOf (set-pids .last .0)} (rw (pids .ensures) at (if1 .left))
+    (unused-found (tableOf (entry .args .t .now)) (tableOf (set-pids .last .0)) _ (find .result) Nothing (find .ensures .0) (set-pids .ensures) (cc))
+    (set-pids .ensures ∙ ap (λ (n : ℕ). onBooks (withPids (n + 1)) (tableOf (entry .args .t .now))) (pids .ensures)) in
     (k .0, k .1, tt)
 
 returns-3 : tie.Need-returns-3
 unfolding pidTop
-returns-3 c = let k = take-slot (tableOf (c .before .before .before .before .before .before .before .before .before .before .args .t .now)) {u = tableOf (c .before .before .before .before .before .set-pids .last .0)} (rw (c .before .before .before .before .before .before .before .before .pids .ensures) at (c .before .before .before .before .before .before .before .if1 .left))
-    (unused-found (tableOf (c .before .before .before .before .before .before .before .before .before .before .args .t .now)) (tableOf (c .before .before .before .before .before .set-pids .last .0)) _ (c .before .before .before .find .result) (At _) (c .before .before .before .find .ensures .0) (c .before .before .before .before .before .set-pids .ensures) (c .before .s .given .1))
-    (c .before .before .before .before .before .set-pids .ensures ∙ ap (λ (n : ℕ). onBooks (withPids (n + 1)) (tableOf (c .before .before .before .before .before .before .before .before .before .before .args .t .now))) (c .before .before .before .before .before .before .before .before .pids .ensures)) in
-    (k .0, k .1, subst InRange (c .before .s .given .1) (c .before .before .before .find .ensures .1))
+returns-3 c =
+    let entry = c .before .before .before .before .before .before .before .before .before .before in
+    let pids = c .before .before .before .before .before .before .before .before .pids in
+    let if1 = c .before .before .before .before .before .before .before .if1 in
+    let set-pids = c .before .before .before .before .before .set-pids in
+    let find = c .before .before .before .find in
+    let k = take-slot (tableOf (entry .args .t .now)) {u = tableOf (set-pids .last .0)} (rw (pids .ensures) at (if1 .left))
+    (unused-found (tableOf (entry .args .t .now)) (tableOf (set-pids .last .0)) _ (find .result) (At _) (find .ensures .0) (set-pids .ensures) (c .before .s .given .1))
+    (set-pids .ensures ∙ ap (λ (n : ℕ). onBooks (withPids (n + 1)) (tableOf (entry .args .t .now))) (pids .ensures)) in
+    (k .0, k .1, subst InRange (c .before .s .given .1) (find .ensures .1))
 
 pub alloc-proc-spec : {M : Type 1} → statement M
 alloc-proc-spec =

@@ -24,11 +24,15 @@ enum-told c = search needs
 
 returns-2 : tie.Need-returns-2
 unfolding hartCount
-returns-2 c = (caller-idle (tableOf (c .before .before .before .before .args .t .now) .core) (c .before .before .before .before .args .h) (omega arith) (cc), tt)
+returns-2 c =
+    let entry = c .before .before .before .before in
+    (caller-idle (tableOf (entry .args .t .now) .core) (entry .args .h) (omega arith) (cc), tt)
 
 returns-3 : tie.Need-returns-3
 unfolding hartCount
-returns-3 c = (caller-is _ _ (omega arith) (sym (c .before .before .before .hart-at .ensures .0) ∙ c .before .p .given .1), (subst InTable (c .before .p .given .1) (c .before .before .before .hart-at .ensures .1), omega arith))
+returns-3 c =
+    let hart-at = c .before .before .before .hart-at in
+    (caller-is _ _ (omega arith) (sym (hart-at .ensures .0) ∙ c .before .p .given .1), (subst InTable (c .before .p .given .1) (hart-at .ensures .1), omega arith))
 
 pub caller-on-spec : {M : Type 1} → statement M
 caller-on-spec =

@@ -13,7 +13,9 @@ set-slot-requires c κs = search needs
 
 returns : tie.Need-returns
 unfolding fill
-returns c = c .set-slot .ensures ∙ ap (λ (p : Process). onCore (fill (c .before .before .args .i) p) (tableOf (c .before .before .args .t .now))) free-is
+returns c =
+    let entry = c .before .before in
+    c .set-slot .ensures ∙ ap (λ (p : Process). onCore (fill (entry .args .i) p) (tableOf (entry .args .t .now))) free-is
 
 pub clear-spec : {M : Type 1} → statement M
 clear-spec = tie.close (tie.spec set-slot-requires returns)

@@ -16,9 +16,12 @@ clear-requires : tie.Need-clear-requires
 clear-requires c κs = search needs
 
 returns : tie.Need-returns
-returns c = c .clear .ensures
-    ∙ reap-law (tableOf (c .before .before .before .before .before .before .args .t .now)) (c .before .before .before .before .before .before .args .i) (c .before .before .before .before .kin-at .result .group)
-    (ap (λ (k : Kin). k .group) (c .before .before .before .before .kin-at .ensures .0)) (c .before .before .leave-group .ensures)
+returns c =
+    let entry = c .before .before .before .before .before .before in
+    let kin-at = c .before .before .before .before .kin-at in
+    c .clear .ensures
+    ∙ reap-law (tableOf (entry .args .t .now)) (entry .args .i) (kin-at .result .group)
+    (ap (λ (k : Kin). k .group) (kin-at .ensures .0)) (c .before .before .leave-group .ensures)
 
 pub free-proc-spec : {M : Type 1} → statement M
 free-proc-spec = tie.close (tie.spec kin-at-requires leave-group-requires clear-requires returns)

@@ -14,13 +14,18 @@ group-at-requires c κs = search needs
 
 add-t7 : tie.Need-add-t7
 unfolding slotCount
-add-t7 c = omega (arith, ap (λ (x : Group). x .count) (c .before .before .group-at .ensures), c .before .before .before .before .pre .1)
+add-t7 c =
+    let entry = c .before .before .before .before in
+    omega (arith, ap (λ (x : Group). x .count) (c .before .before .group-at .ensures), entry .pre .1)
 
 set-group-requires : tie.Need-set-group-requires
 set-group-requires c κs = search needs
 
 returns : tie.Need-returns
-returns c = c .set-group .ensures ∙ join-law (tableOf (c .before .before .before .before .before .args .t .now)) (c .before .before .before .before .before .args .g) (c .before .before .before .group-at .result) (c .before .before .before .group-at .ensures)
+returns c =
+    let entry = c .before .before .before .before .before in
+    let group-at = c .before .before .before .group-at in
+    c .set-group .ensures ∙ join-law (tableOf (entry .args .t .now)) (entry .args .g) (group-at .result) (group-at .ensures)
 
 pub join-group-spec : {M : Type 1} → statement M
 join-group-spec = tie.close (tie.spec group-at-requires add-t7 set-group-requires returns)

@@ -18,10 +18,17 @@ set-group-requires-2 : tie.Need-set-group-requires-2
 set-group-requires-2 c κs = search needs
 
 returns : tie.Need-returns
-returns c = c .set-group .ensures ∙ less-one (tableOf (c .before .before .before .before .before .before .args .t .now)) (c .before .before .before .before .before .before .args .g) (c .before .before .before .before .group-at .result) (c .before .before .before .before .group-at .ensures) (c .before .before .if1 .taken)
+returns c =
+    let entry = c .before .before .before .before .before .before in
+    let group-at = c .before .before .before .before .group-at in
+    c .set-group .ensures ∙ less-one (tableOf (entry .args .t .now)) (entry .args .g) (group-at .result) (group-at .ensures) (c .before .before .if1 .taken)
 
 returns-2 : tie.Need-returns-2
-returns-2 c = c .set-group2 .ensures ∙ less-more (tableOf (c .before .before .before .before .before .before .before .args .t .now)) (c .before .before .before .before .before .before .before .args .g) (c .before .before .before .before .before .group-at .result) (c .before .before .before .before .before .group-at .ensures) (c .before .before .before .if1 .left)
+returns-2 c =
+    let entry = c .before .before .before .before .before .before .before in
+    let group-at = c .before .before .before .before .before .group-at in
+    let if1 = c .before .before .before .if1 in
+    c .set-group2 .ensures ∙ less-more (tableOf (entry .args .t .now)) (entry .args .g) (group-at .result) (group-at .ensures) (if1 .left)
 
 pub leave-spec : {M : Type 1} → statement M
 leave-spec =

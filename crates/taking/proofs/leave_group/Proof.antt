@@ -13,13 +13,20 @@ enum-told : tie.Need-enum-told
 enum-told c = search needs
 
 returns : tie.Need-returns
-returns c = leave-alone (tableOf (c .before .before .args .t .now)) (c .before .before .args .m) (cc)
+returns c =
+    let entry = c .before .before in
+    leave-alone (tableOf (entry .args .t .now)) (entry .args .m) (cc)
 
 leave-requires : tie.Need-leave-requires
-leave-requires c κs = subst InGroups (c .before .before .m .given .1) (c .before .before .before .before .pre)
+leave-requires c κs =
+    let entry = c .before .before .before .before in
+    subst InGroups (c .before .before .m .given .1) (entry .pre)
 
 returns-2 : tie.Need-returns-2
-returns-2 c = c .leave .ensures ∙ leave-in (tableOf (c .before .before .before .before .before .args .t .now)) (c .before .before .before .before .before .args .m) _ (c .before .before .before .m .given .1)
+returns-2 c =
+    let entry = c .before .before .before .before .before in
+    let m = c .before .before .before .m in
+    c .leave .ensures ∙ leave-in (tableOf (entry .args .t .now)) (entry .args .m) _ (m .given .1)
 
 pub leave-group-spec : {M : Type 1} → statement M
 leave-group-spec = tie.close (tie.spec enum-known-m enum-told returns leave-requires returns-2)

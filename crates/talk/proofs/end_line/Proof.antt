@@ -16,13 +16,23 @@ same-length : tie.Need-same-length
 same-length c = search needs
 
 returns : tie.Need-returns
-returns c = line-ended (c .before .before .before .before .before .before .before .before .before .args .t .now) (c .before .before .before .before .before .before .before .before .before .args .line .now) (c .before .before .before .before .before .before .before .before .before .args .out .now) (c .before .before .before .before .before .before .before .before .before .args .p) (c .before .before .before .before .before .before .before .before .before .pre .forAnswer) (omega arith) (omega (arith, c .before .before .before .before .before .wrapping-add-u64 .ensures)) (too-long (c .before .before .before .before .before .before .before .before .before .args .line .now) (c .before .before .before .before .before .before .before .before .before .args .p .len) (c .before .before .before .before .before .before .before .before .before .pre .forLine) (omega (arith, c .before .before .before .before .if1)) (c .before .before .before .before .before .before .before .before .before .pre .len) (c .before .before .before .before .before .before .before .before .before .pre .sound) (c .before .before .write-misread .ensures .0) (c .before .before .write-misread .ensures .1))
+returns c =
+    let entry = c .before .before .before .before .before .before .before .before .before in
+    let wrapping-add-u64 = c .before .before .before .before .before .wrapping-add-u64 in
+    let if1 = c .before .before .before .before .if1 in
+    let write-misread = c .before .before .write-misread in
+    line-ended (entry .args .t .now) (entry .args .line .now) (entry .args .out .now) (entry .args .p) (entry .pre .forAnswer) (omega arith) (omega (arith, wrapping-add-u64 .ensures)) (too-long (entry .args .line .now) (entry .args .p .len) (entry .pre .forLine) (omega (arith, if1)) (entry .pre .len) (entry .pre .sound) (write-misread .ensures .0) (write-misread .ensures .1))
 
 slice-aggregate-answer : tie.Need-slice-aggregate-answer
-slice-aggregate-answer c = sym (length-take-le (c .before .before .before .before .before .before .before .args .p .len) (c .before .before .before .before .before .before .before .args .line .now) (omega (arith, c .before .before .before .before .before .before .before .pre .forLine, c .before .before .before .before .before .before .before .pre .len)))
+slice-aggregate-answer c =
+    let entry = c .before .before .before .before .before .before .before in
+    sym (length-take-le (entry .args .p .len) (entry .args .line .now) (omega (arith, entry .pre .forLine, entry .pre .len)))
 
 answer-requires : tie.Need-answer-requires
-answer-requires c κs = (c .before .before .before .before .before .before .before .before .before .pre .sound, omega (arith, short (c .before .before .before .before .before .before .before .before .before .args .line .now) (c .before .before .before .before .before .before .before .before .before .args .p .len) (c .before .before .before .before .before .before .before .before .before .pre .forLine) (omega (arith, c .before .before .before .before .if1)), c .before .before .before .before .before .before .before .before .before .pre .forName), c .before .before .before .before .before .before .before .before .before .pre .forAnswer)
+answer-requires c κs =
+    let entry = c .before .before .before .before .before .before .before .before .before in
+    let if1 = c .before .before .before .before .if1 in
+    (entry .pre .sound, omega (arith, short (entry .args .line .now) (entry .args .p .len) (entry .pre .forLine) (omega (arith, if1)), entry .pre .forName), entry .pre .forAnswer)
 
 same-length-2 : tie.Need-same-length-2
 same-length-2 c = search needs
@@ -31,7 +41,12 @@ same-length-3 : tie.Need-same-length-3
 same-length-3 c = search needs
 
 returns-2 : tie.Need-returns-2
-returns-2 c = line-ended (c .before .before .before .before .before .before .before .before .before .before .before .before .before .before .args .t .now) (c .before .before .before .before .before .before .before .before .before .before .before .before .before .before .args .line .now) (c .before .before .before .before .before .before .before .before .before .before .before .before .before .before .args .out .now) (c .before .before .before .before .before .before .before .before .before .before .before .before .before .before .args .p) (c .before .before .before .before .before .before .before .before .before .before .before .before .before .before .pre .forAnswer) (omega arith) (omega (arith, c .before .before .before .before .before .before .before .before .before .before .wrapping-add-u64 .ensures)) (in-full (c .before .before .before .before .before .before .before .before .before .before .before .before .before .before .args .line .now) (c .before .before .before .before .before .before .before .before .before .before .before .before .before .before .args .p .len) (c .before .before .before .before .before .before .before .before .before .before .before .before .before .before .pre .forLine) (omega (arith, c .before .before .before .before .before .before .before .before .before .if1)) (c .before .before .before .before .answer .ensures))
+returns-2 c =
+    let entry = c .before .before .before .before .before .before .before .before .before .before .before .before .before .before in
+    let wrapping-add-u64 = c .before .before .before .before .before .before .before .before .before .before .wrapping-add-u64 in
+    let if1 = c .before .before .before .before .before .before .before .before .before .if1 in
+    let answer = c .before .before .before .before .answer in
+    line-ended (entry .args .t .now) (entry .args .line .now) (entry .args .out .now) (entry .args .p) (entry .pre .forAnswer) (omega arith) (omega (arith, wrapping-add-u64 .ensures)) (in-full (entry .args .line .now) (entry .args .p .len) (entry .pre .forLine) (omega (arith, if1)) (answer .ensures))
 
 pub end-line-spec : {M : Type 1} → statement M
 end-line-spec =

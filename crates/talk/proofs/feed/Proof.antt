@@ -16,7 +16,11 @@ same-length-3 : tie.Need-same-length-3
 same-length-3 c = search needs
 
 returns : tie.Need-returns
-returns c = heard-end (c .before .before .before .before .before .before .before .before .before .before .before .before .before .args .t .now) (c .before .before .before .before .before .before .before .before .before .before .before .before .before .args .line .now) (c .before .before .before .before .before .before .before .before .before .before .before .before .before .args .out .now) (c .before .before .before .before .before .before .before .before .before .before .before .before .before .args .p) (c .before .before .before .before .before .before .before .before .before .before .before .before .before .args .b) (c .before .before .before .before .before .before .before .before .before .if1 .taken) (c .before .before .before .before .end-line .ensures)
+returns c =
+    let entry = c .before .before .before .before .before .before .before .before .before .before .before .before .before in
+    let if1 = c .before .before .before .before .before .before .before .before .before .if1 in
+    let end-line = c .before .before .before .before .end-line in
+    heard-end (entry .args .t .now) (entry .args .line .now) (entry .args .out .now) (entry .args .p) (entry .args .b) (if1 .taken) (end-line .ensures)
 
 push-requires : tie.Need-push-requires
 push-requires c κs = search needs
@@ -25,7 +29,11 @@ same-length-4 : tie.Need-same-length-4
 same-length-4 c = search needs
 
 returns-2 : tie.Need-returns-2
-returns-2 c = heard-more (c .before .before .before .before .before .before .before .before .args .t .now) (c .before .before .before .before .before .before .before .before .args .line .now) (c .before .before .before .before .before .before .before .before .args .out .now) (c .before .before .before .before .before .before .before .before .args .p) (c .before .before .before .before .before .before .before .before .args .b) (c .before .before .before .before .if1 .left) (c .before .before .before .before .before .before .before .before .pre .sound) (c .before .before .before .before .before .before .before .before .pre .forAnswer) (c .before .before .push .ensures .0) (c .before .before .push .ensures .1)
+returns-2 c =
+    let entry = c .before .before .before .before .before .before .before .before in
+    let if1 = c .before .before .before .before .if1 in
+    let push = c .before .before .push in
+    heard-more (entry .args .t .now) (entry .args .line .now) (entry .args .out .now) (entry .args .p) (entry .args .b) (if1 .left) (entry .pre .sound) (entry .pre .forAnswer) (push .ensures .0) (push .ensures .1)
 
 pub feed-spec : {M : Type 1} → statement M
 feed-spec =

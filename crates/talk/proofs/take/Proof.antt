@@ -16,10 +16,14 @@ abbrev μ-loop : tie.MeasureT-loop
 
 sub-last : tie.Need-sub-last Inv-loop μ-loop
 unfolding slotCount hartCount nameSize
-sub-last c = omega (arith, c .before .before .before .before .pre .forAnswer)
+sub-last c =
+    let entry = c .before .before .before .before in
+    omega (arith, entry .pre .forAnswer)
 
 loop-holds : tie.Need-loop-holds Inv-loop μ-loop
-loop-holds c = none-heard _ _ _ _ _ refl (c .before .before .before .before .pre) _ (omega arith)
+loop-holds c =
+    let entry = c .before .before .before .before in
+    none-heard _ _ _ _ _ refl (entry .pre) _ (omega arith)
 
 same-length : tie.Need-same-length Inv-loop μ-loop
 same-length c = c .before .before .loop .inv .line-same
@@ -32,23 +36,37 @@ same-length-3 c = c .before .before .loop .inv .out-same
 
 returns : tie.Need-returns Inv-loop μ-loop
 unfolding slotCount hartCount nameSize
-returns c = took _ _ _ _ _ (c .before .before .loop .inv) (λ h. absurd (omega (arith, h, c .if1 .taken, c .before .before .loop .inv .out-same)))
+returns c =
+    let loop = c .before .before .loop in
+    took _ _ _ _ _ (loop .inv) (λ h. absurd (omega (arith, h, c .if1 .taken, loop .inv .out-same)))
 
 shared-slice-read-feed : tie.Need-shared-slice-read-feed Inv-loop μ-loop
 shared-slice-read-feed c = omega arith
 
 feed-requires : tie.Need-feed-requires Inv-loop μ-loop
 unfolding slotCount hartCount nameSize
-feed-requires c κs = ready _ _ _ _ _ (c .before .before .before .before .before .before .before .loop .inv) (c .before .before .before .before .before .before .before .before .before .before .before .before .pre .forLine) (c .before .before .before .before .before .before .before .before .before .before .before .before .pre .forName) (omega (arith, c .before .before .before .before .before .if1 .left, c .before .before .before .before .before .before .before .before .before .before .before .before .pre .forAnswer, c .before .before .before .before .before .before .before .loop .inv .out-same))
+feed-requires c κs =
+    let entry = c .before .before .before .before .before .before .before .before .before .before .before .before in
+    let loop = c .before .before .before .before .before .before .before .loop in
+    let if1 = c .before .before .before .before .before .if1 in
+    ready _ _ _ _ _ (loop .inv) (entry .pre .forLine) (entry .pre .forName) (omega (arith, if1 .left, entry .pre .forAnswer, loop .inv .out-same))
 
 add-used : tie.Need-add-used Inv-loop μ-loop
-add-used c = omega (arith, c .before .before .before .before .before .before .before .before .before .before .before .before .before .loop-test)
+add-used c =
+    let loop-test = c .before .before .before .before .before .before .before .before .before .before .before .before .before .loop-test in
+    omega (arith, loop-test)
 
 loop-less : tie.Need-loop-less Inv-loop μ-loop
-loop-less c = omega (arith, c .before .before .before .before .before .before .before .before .before .before .before .before .before .loop-test)
+loop-less c =
+    let loop-test = c .before .before .before .before .before .before .before .before .before .before .before .before .before .loop-test in
+    omega (arith, loop-test)
 
 loop-again : tie.Need-loop-again Inv-loop μ-loop
-loop-again c = next _ _ _ _ _ (c .before .before .before .before .before .before .before .before .before .before .before .before .before .before .loop .inv) (omega (arith, c .before .before .before .before .before .before .before .before .before .before .before .before .before .loop-test)) (c .before .before .before .before .before .before .feed .ensures) (c .before .before .before .before .before .before .feed .kept .1 .1 .0) (c .before .before .before .before .before .before .feed .kept .1 .1 .1 .0) (c .before .before .before .before .before .before .feed .kept .1 .1 .1 .1 .0)
+loop-again c =
+    let loop = c .before .before .before .before .before .before .before .before .before .before .before .before .before .before .loop in
+    let loop-test = c .before .before .before .before .before .before .before .before .before .before .before .before .before .loop-test in
+    let feed = c .before .before .before .before .before .before .feed in
+    next _ _ _ _ _ (loop .inv) (omega (arith, loop-test)) (feed .ensures) (feed .kept .1 .1 .0) (feed .kept .1 .1 .1 .0) (feed .kept .1 .1 .1 .1 .0)
 
 same-length-4 : tie.Need-same-length-4 Inv-loop μ-loop
 same-length-4 c = c .before .loop .inv .line-same

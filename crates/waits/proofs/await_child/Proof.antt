@@ -9,7 +9,9 @@ meta-at-requires : tie.Need-meta-at-requires
 meta-at-requires c κs = search needs
 
 returns : tie.Need-returns
-returns c = child-killed (tableOf (c .before .before .before .args .t .now)) (c .before .before .before .args .h) (c .before .before .before .args .w) (c .before .before .before .args .s) (c .before .meta-at .ensures) (c .if1 .taken)
+returns c =
+    let entry = c .before .before .before in
+    child-killed (tableOf (entry .args .t .now)) (entry .args .h) (entry .args .w) (entry .args .s) (c .before .meta-at .ensures) (c .if1 .taken)
 
 find-requires : tie.Need-find-requires
 find-requires c κs = search needs
@@ -21,7 +23,10 @@ enum-told-2 : tie.Need-enum-told-2
 enum-told-2 c = search needs
 
 returns-2 : tie.Need-returns-2
-returns-2 c = childless (tableOf (c .before .before .before .before .before .before .before .args .t .now)) (c .before .before .before .before .before .before .before .args .h) (c .before .before .before .before .before .before .before .args .w) (c .before .before .before .before .before .before .before .args .s) (c .before .before .find .result) (c .before .before .find .ensures .0) (cc)
+returns-2 c =
+    let entry = c .before .before .before .before .before .before .before in
+    let find = c .before .before .find in
+    childless (tableOf (entry .args .t .now)) (entry .args .h) (entry .args .w) (entry .args .s) (find .result) (find .ensures .0) (cc)
 
 own-channel-requires : tie.Need-own-channel-requires
 own-channel-requires c κs = search needs
@@ -30,7 +35,13 @@ sleep-on-requires : tie.Need-sleep-on-requires
 sleep-on-requires c κs = search needs
 
 returns-3 : tie.Need-returns-3
-returns-3 c = let a = c .before .before .before .before .before .before .before .before .before .before .args in child-awaited (tableOf (a .t .now)) (a .h) (a .w) (a .s) (c .before .before .before .before .before .find .result) (c .before .before .before .before .before .find .ensures .0) (sym (c .before .before .before .enum-told .given .1)) (c .before .before .before .before .before .before .before .before .meta-at .ensures) (c .before .before .before .before .before .before .before .if1 .left) (rw (c .before .own-channel .ensures) at (c .sleep-on .ensures))
+returns-3 c =
+    let entry = c .before .before .before .before .before .before .before .before .before .before in
+    let meta-at = c .before .before .before .before .before .before .before .before .meta-at in
+    let if1 = c .before .before .before .before .before .before .before .if1 in
+    let find = c .before .before .before .before .before .find in
+    let enum-told = c .before .before .before .enum-told in
+    let a = entry .args in child-awaited (tableOf (a .t .now)) (a .h) (a .w) (a .s) (find .result) (find .ensures .0) (sym (enum-told .given .1)) (meta-at .ensures) (if1 .left) (rw (c .before .own-channel .ensures) at (c .sleep-on .ensures))
 
 pub await-child-spec : {M : Type 1} → statement M
 await-child-spec =

@@ -18,13 +18,20 @@ enum-told : tie.Need-enum-told
 enum-told c = search needs
 
 returns : tie.Need-returns
-returns c = by-alone (tableOf (c .before .before .before .before .args .t .now)) (c .before .before .before .before .args .h) (c .before .before .before .before .args .p) (c .before .before .before .before .args .w) (c .before .before .before .before .args .s) ((cc) ∙ ap (λ (k : Kin). k .group) (c .before .before .kin-at .ensures .0))
+returns c =
+    let entry = c .before .before .before .before in
+    by-alone (tableOf (entry .args .t .now)) (entry .args .h) (entry .args .p) (entry .args .w) (entry .args .s) ((cc) ∙ ap (λ (k : Kin). k .group) (c .before .before .kin-at .ensures .0))
 
 meta-at-requires : tie.Need-meta-at-requires
 meta-at-requires c κs = search needs
 
 returns-2 : tie.Need-returns-2
-returns-2 c = by-itself (tableOf (c .before .before .before .before .before .before .before .before .before .before .before .args .t .now)) (c .before .before .before .before .before .before .before .before .before .before .before .args .h) (c .before .before .before .before .before .before .before .before .before .before .before .args .p) (c .before .before .before .before .before .before .before .before .before .before .before .args .w) (c .before .before .before .before .before .before .before .before .before .before .before .args .s) (sym (c .before .before .before .before .before .before .before .group .given .1) ∙ ap (λ (k : Kin). k .group) (c .before .before .before .before .before .before .before .before .before .kin-at .ensures .0)) (c .before .before .before .before .meta-at .ensures) (c .if1 .taken)
+returns-2 c =
+    let entry = c .before .before .before .before .before .before .before .before .before .before .before in
+    let kin-at = c .before .before .before .before .before .before .before .before .before .kin-at in
+    let group = c .before .before .before .before .before .before .before .group in
+    let meta-at = c .before .before .before .before .meta-at in
+    by-itself (tableOf (entry .args .t .now)) (entry .args .h) (entry .args .p) (entry .args .w) (entry .args .s) (sym (group .given .1) ∙ ap (λ (k : Kin). k .group) (kin-at .ensures .0)) (meta-at .ensures) (c .if1 .taken)
 
 find-requires : tie.Need-find-requires
 find-requires c κs = search needs
@@ -36,13 +43,31 @@ enum-known-i : tie.Need-enum-known-i
 enum-known-i c = search needs
 
 join-to-requires : tie.Need-join-to-requires
-join-to-requires c κs = (c .before .before .before .before .before .before .before .before .before .before .before .before .before .before .before .before .before .pre .0, c .before .before .before .before .before .before .before .before .before .before .before .before .before .before .before .before .before .pre .1, subst InRange (c .before .before .i .given .1) (c .before .before .before .before .find .ensures .1))
+join-to-requires c κs =
+    let entry = c .before .before .before .before .before .before .before .before .before .before .before .before .before .before .before .before .before in
+    let find = c .before .before .before .before .find in
+    (entry .pre .0, entry .pre .1, subst InRange (c .before .before .i .given .1) (find .ensures .1))
 
 returns-3 : tie.Need-returns-3
-returns-3 c = by-none (tableOf (c .before .before .before .before .before .before .before .before .before .before .before .before .before .before .before .args .t .now)) (c .before .before .before .before .before .before .before .before .before .before .before .before .before .before .before .args .h) (c .before .before .before .before .before .before .before .before .before .before .before .before .before .before .before .args .p) (c .before .before .before .before .before .before .before .before .before .before .before .before .before .before .before .args .w) (c .before .before .before .before .before .before .before .before .before .before .before .before .before .before .before .args .s) (sym (c .before .before .before .before .before .before .before .before .before .before .before .group .given .1) ∙ ap (λ (k : Kin). k .group) (c .before .before .before .before .before .before .before .before .before .before .before .before .before .kin-at .ensures .0)) (c .before .before .before .before .before .before .before .before .meta-at .ensures) (ne-eqb _ _ (c .before .before .before .before .if1 .left)) (c .before .before .find .result) (c .before .before .find .ensures .0) (cc)
+returns-3 c =
+    let entry = c .before .before .before .before .before .before .before .before .before .before .before .before .before .before .before in
+    let kin-at = c .before .before .before .before .before .before .before .before .before .before .before .before .before .kin-at in
+    let group = c .before .before .before .before .before .before .before .before .before .before .before .group in
+    let meta-at = c .before .before .before .before .before .before .before .before .meta-at in
+    let if1 = c .before .before .before .before .if1 in
+    let find = c .before .before .find in
+    by-none (tableOf (entry .args .t .now)) (entry .args .h) (entry .args .p) (entry .args .w) (entry .args .s) (sym (group .given .1) ∙ ap (λ (k : Kin). k .group) (kin-at .ensures .0)) (meta-at .ensures) (ne-eqb _ _ (if1 .left)) (find .result) (find .ensures .0) (cc)
 
 returns-4 : tie.Need-returns-4
-returns-4 c = by-thread (tableOf (c .before .before .before .before .before .before .before .before .before .before .before .before .before .before .before .before .before .before .args .t .now)) (c .before .before .before .before .before .before .before .before .before .before .before .before .before .before .before .before .before .before .args .h) (c .before .before .before .before .before .before .before .before .before .before .before .before .before .before .before .before .before .before .args .p) (c .before .before .before .before .before .before .before .before .before .before .before .before .before .before .before .before .before .before .args .w) (c .before .before .before .before .before .before .before .before .before .before .before .before .before .before .before .before .before .before .args .s) (sym (c .before .before .before .before .before .before .before .before .before .before .before .before .before .before .group .given .1) ∙ ap (λ (k : Kin). k .group) (c .before .before .before .before .before .before .before .before .before .before .before .before .before .before .before .before .kin-at .ensures .0)) (c .before .before .before .before .before .before .before .before .before .before .before .meta-at .ensures) (ne-eqb _ _ (c .before .before .before .before .before .before .before .if1 .left)) (c .before .before .before .before .before .find .result) (c .before .before .before .before .before .find .ensures .0) (sym (c .before .before .before .i .given .1)) (c .join-to .ensures)
+returns-4 c =
+    let entry = c .before .before .before .before .before .before .before .before .before .before .before .before .before .before .before .before .before .before in
+    let kin-at = c .before .before .before .before .before .before .before .before .before .before .before .before .before .before .before .before .kin-at in
+    let group = c .before .before .before .before .before .before .before .before .before .before .before .before .before .before .group in
+    let meta-at = c .before .before .before .before .before .before .before .before .before .before .before .meta-at in
+    let if1 = c .before .before .before .before .before .before .before .if1 in
+    let find = c .before .before .before .before .before .find in
+    let i = c .before .before .before .i in
+    by-thread (tableOf (entry .args .t .now)) (entry .args .h) (entry .args .p) (entry .args .w) (entry .args .s) (sym (group .given .1) ∙ ap (λ (k : Kin). k .group) (kin-at .ensures .0)) (meta-at .ensures) (ne-eqb _ _ (if1 .left)) (find .result) (find .ensures .0) (sym (i .given .1)) (c .join-to .ensures)
 
 pub join-by-spec : {M : Type 1} → statement M
 join-by-spec =

@@ -16,7 +16,10 @@ unwritable-requires : tie.Need-unwritable-requires
 unwritable-requires c κs = search needs
 
 returns : tie.Need-returns
-returns c = thread-unwritable (tableOf (c .before .before .before .before .before .args .t .now)) (c .before .before .before .before .before .args .h) (c .before .before .before .before .before .args .w) (c .before .before .before .before .before .args .s) (c .before .before .before .before .before .args .i) (sym (c .before .before .before .is .ensures) ∙ c .before .before .if1 .taken) (sym (c .before .unwritable .ensures) ∙ c .if2 .taken)
+returns c =
+    let entry = c .before .before .before .before .before in
+    let is = c .before .before .before .is in
+    thread-unwritable (tableOf (entry .args .t .now)) (entry .args .h) (entry .args .w) (entry .args .s) (entry .args .i) (sym (is .ensures) ∙ c .before .before .if1 .taken) (sym (c .before .unwritable .ensures) ∙ c .if2 .taken)
 
 meta-at-requires : tie.Need-meta-at-requires
 meta-at-requires c κs = search needs
@@ -28,8 +31,15 @@ signed-requires : tie.Need-signed-requires
 signed-requires c κs = search needs
 
 returns-2 : tie.Need-returns-2
-returns-2 c = let e = c .signed .ensures in thread-joined (tableOf (c .before .before .before .before .before .before .before .before .before .before .args .t .now)) (c .before .before .before .before .before .before .before .before .before .before .args .h) (c .before .before .before .before .before .before .before .before .before .before .args .w) (c .before .before .before .before .before .before .before .before .before .before .args .s) (c .before .before .before .before .before .before .before .before .before .before .args .i) (sym (c .before .before .before .before .before .before .before .before .is .ensures) ∙ c .before .before .before .before .before .before .before .if1 .taken) (sym (c .before .before .before .before .before .before .unwritable .ensures) ∙ c .before .before .before .before .before .if2 .left) (c .before .before .before .meta-at .ensures)
-    (toZ-ofZ (subst (SFits w32) (sym e) (signed-fits (c .before .before .before .meta-at .result .xstate))) ∙ e) (c .before .free-proc .ensures)
+returns-2 c =
+    let entry = c .before .before .before .before .before .before .before .before .before .before in
+    let is = c .before .before .before .before .before .before .before .before .is in
+    let if1 = c .before .before .before .before .before .before .before .if1 in
+    let unwritable = c .before .before .before .before .before .before .unwritable in
+    let if2 = c .before .before .before .before .before .if2 in
+    let meta-at = c .before .before .before .meta-at in
+    let e = c .signed .ensures in thread-joined (tableOf (entry .args .t .now)) (entry .args .h) (entry .args .w) (entry .args .s) (entry .args .i) (sym (is .ensures) ∙ if1 .taken) (sym (unwritable .ensures) ∙ if2 .left) (meta-at .ensures)
+    (toZ-ofZ (subst (SFits w32) (sym e) (signed-fits (meta-at .result .xstate))) ∙ e) (c .before .free-proc .ensures)
 
 own-channel-requires : tie.Need-own-channel-requires
 own-channel-requires c κs = search needs
@@ -38,7 +48,11 @@ sleep-on-requires : tie.Need-sleep-on-requires
 sleep-on-requires c κs = search needs
 
 returns-3 : tie.Need-returns-3
-returns-3 c = let a = c .before .before .before .before .before .before .args in thread-awaited (tableOf (a .t .now)) (a .h) (a .w) (a .s) (a .i) (sym (c .before .before .before .before .is .ensures) ∙ c .before .before .before .if1 .left) (rw (c .before .own-channel .ensures) at (c .sleep-on .ensures))
+returns-3 c =
+    let entry = c .before .before .before .before .before .before in
+    let is = c .before .before .before .before .is in
+    let if1 = c .before .before .before .if1 in
+    let a = entry .args in thread-awaited (tableOf (a .t .now)) (a .h) (a .w) (a .s) (a .i) (sym (is .ensures) ∙ if1 .left) (rw (c .before .own-channel .ensures) at (c .sleep-on .ensures))
 
 pub join-to-spec : {M : Type 1} → statement M
 join-to-spec =

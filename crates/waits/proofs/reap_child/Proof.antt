@@ -9,7 +9,9 @@ unwritable-requires : tie.Need-unwritable-requires
 unwritable-requires c κs = search needs
 
 returns : tie.Need-returns
-returns c = child-unwritable (tableOf (c .before .before .args .t .now)) (c .before .before .args .h) (c .before .before .args .w) (c .before .before .args .s) (c .before .before .args .i) (sym (c .before .unwritable .ensures) ∙ c .if1 .taken)
+returns c =
+    let entry = c .before .before in
+    child-unwritable (tableOf (entry .args .t .now)) (entry .args .h) (entry .args .w) (entry .args .s) (entry .args .i) (sym (c .before .unwritable .ensures) ∙ c .if1 .taken)
 
 meta-at-requires : tie.Need-meta-at-requires
 meta-at-requires c κs = search needs
@@ -18,7 +20,12 @@ free-proc-requires : tie.Need-free-proc-requires
 free-proc-requires c κs = search needs
 
 returns-2 : tie.Need-returns-2
-returns-2 c = child-reaped (tableOf (c .before .before .before .before .before .before .before .args .t .now)) (c .before .before .before .before .before .before .before .args .h) (c .before .before .before .before .before .before .before .args .w) (c .before .before .before .before .before .before .before .args .s) (c .before .before .before .before .before .before .before .args .i) (sym (c .before .before .before .before .before .before .unwritable .ensures) ∙ c .before .before .before .before .before .if1 .left) (c .before .before .before .meta-at .ensures) (c .free-proc .ensures)
+returns-2 c =
+    let entry = c .before .before .before .before .before .before .before in
+    let unwritable = c .before .before .before .before .before .before .unwritable in
+    let if1 = c .before .before .before .before .before .if1 in
+    let meta-at = c .before .before .before .meta-at in
+    child-reaped (tableOf (entry .args .t .now)) (entry .args .h) (entry .args .w) (entry .args .s) (entry .args .i) (sym (unwritable .ensures) ∙ if1 .left) (meta-at .ensures) (c .free-proc .ensures)
 
 pub reap-child-spec : {M : Type 1} → statement M
 reap-child-spec =

@@ -25,22 +25,41 @@ enum-known-i : tie.Need-enum-known-i
 enum-known-i c = search needs
 
 reap-child-requires : tie.Need-reap-child-requires
-reap-child-requires c κs = subst InRange (c .before .before .i .given .1) (c .before .before .before .before .find .ensures .1)
+reap-child-requires c κs =
+    let find = c .before .before .before .before .find in
+    subst InRange (c .before .before .i .given .1) (find .ensures .1)
 
 enum-told : tie.Need-enum-told
 enum-told c = search needs
 
 await-child-requires : tie.Need-await-child-requires
-await-child-requires c κs = let k = subst (InHart _) (c .before .before .before .before .before .before .c2 .given .1) (c .before .before .before .before .before .before .before .before .caller-on .ensures .1) in (k .1, k .0)
+await-child-requires c κs =
+    let caller-on = c .before .before .before .before .before .before .before .before .caller-on in
+    let c2 = c .before .before .before .before .before .before .c2 in
+    let k = subst (InHart _) (c2 .given .1) (caller-on .ensures .1) in (k .1, k .0)
 
 returns : tie.Need-returns
-returns c = did (c .before .before .before .before .before .pre) (wait-no (tableOf (c .before .before .before .before .before .args .t .now)) _ _ _ (sym (c .before .c .given .1) ∙ c .before .before .before .caller-on .ensures .0))
+returns c =
+    let entry = c .before .before .before .before .before in
+    let caller-on = c .before .before .before .caller-on in
+    did (entry .pre) (wait-no (tableOf (entry .args .t .now)) _ _ _ (sym (c .before .c .given .1) ∙ caller-on .ensures .0))
 
 returns-2 : tie.Need-returns-2
-returns-2 c = did (c .before .before .before .before .before .before .before .before .before .before .before .before .pre) (wait-is (tableOf (c .before .before .before .before .before .before .before .before .before .before .before .before .args .t .now)) _ _ (sym (c .before .before .before .before .before .before .before .before .c2 .given .1) ∙ c .before .before .before .before .before .before .before .before .before .before .caller-on .ensures .0) (c .before .before .before .before .before .find .ensures .0) (sym (c .before .before .before .i .given .1)) (c .reap-child .ensures))
+returns-2 c =
+    let entry = c .before .before .before .before .before .before .before .before .before .before .before .before in
+    let caller-on = c .before .before .before .before .before .before .before .before .before .before .caller-on in
+    let c2 = c .before .before .before .before .before .before .before .before .c2 in
+    let find = c .before .before .before .before .before .find in
+    let i = c .before .before .before .i in
+    did (entry .pre) (wait-is (tableOf (entry .args .t .now)) _ _ (sym (c2 .given .1) ∙ caller-on .ensures .0) (find .ensures .0) (sym (i .given .1)) (c .reap-child .ensures))
 
 returns-3 : tie.Need-returns-3
-returns-3 c = did (c .before .before .before .before .before .before .before .before .before .before .before .pre) (wait-is (tableOf (c .before .before .before .before .before .before .before .before .before .before .before .args .t .now)) _ _ {r = c .before .before .before .before .find .result} {x = Nothing} (sym (c .before .before .before .before .before .before .before .c2 .given .1) ∙ c .before .before .before .before .before .before .before .before .before .caller-on .ensures .0) (c .before .before .before .before .find .ensures .0) (cc) (c .await-child .ensures))
+returns-3 c =
+    let entry = c .before .before .before .before .before .before .before .before .before .before .before in
+    let caller-on = c .before .before .before .before .before .before .before .before .before .caller-on in
+    let c2 = c .before .before .before .before .before .before .before .c2 in
+    let find = c .before .before .before .before .find in
+    did (entry .pre) (wait-is (tableOf (entry .args .t .now)) _ _ {r = find .result} {x = Nothing} (sym (c2 .given .1) ∙ caller-on .ensures .0) (find .ensures .0) (cc) (c .await-child .ensures))
 
 pub wait-spec : {M : Type 1} → statement M
 wait-spec =

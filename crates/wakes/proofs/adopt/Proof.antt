@@ -20,8 +20,11 @@ wake-of-requires c κs = (
 )
 
 returns : tie.Need-returns
-returns c = c .wake-of .ensures ∙ adopt-law (tableOf (c .before .before .before .before .before .before .args .t .now)) (c .before .before .before .before .before .before .args .i) (c .before .before .before .before .before .before .args .init) (c .before .before .set-kin .ensures ∙ kin-change (tableOf (c .before .before .before .before .before .before .args .t .now)) (c .before .before .before .before .before .before .args .i) _ (c .before .before .before .before .before .before .args .init)
-    (ap (λ (k : Kin). record { group = k .group; parent = c .before .before .before .before .before .before .args .init; thread = k .thread; system = k .system }) (c .before .before .before .before .kin-at .ensures .0)))
+returns c =
+    let entry = c .before .before .before .before .before .before in
+    let kin-at = c .before .before .before .before .kin-at in
+    c .wake-of .ensures ∙ adopt-law (tableOf (entry .args .t .now)) (entry .args .i) (entry .args .init) (c .before .before .set-kin .ensures ∙ kin-change (tableOf (entry .args .t .now)) (entry .args .i) _ (entry .args .init)
+    (ap (λ (k : Kin). record { group = k .group; parent = entry .args .init; thread = k .thread; system = k .system }) (kin-at .ensures .0)))
 
 pub adopt-spec : {M : Type 1} → statement M
 adopt-spec = tie.close (tie.spec kin-at-requires set-kin-requires wake-of-requires returns)

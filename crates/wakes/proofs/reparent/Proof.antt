@@ -30,28 +30,42 @@ mul-i c = search needs
 
 hand-over-requires : tie.Need-hand-over-requires Inv-loop μ-loop
 unfolding slotCount
-hand-over-requires c κs = (omega arith, c .before .before .before .init .ensures .1, c .before .before .loop .inv .2)
+hand-over-requires c κs =
+    let init = c .before .before .before .init in
+    (omega arith, init .ensures .1, c .before .before .loop .inv .2)
 
 add-hand-over : tie.Need-add-hand-over Inv-loop μ-loop
 add-hand-over c = search needs
 
 hand-over-requires-2 : tie.Need-hand-over-requires-2 Inv-loop μ-loop
 unfolding slotCount
-hand-over-requires-2 c κs = (omega arith, c .before .before .before .before .before .init .ensures .1, one-queued (handOver-queued _ _) _ _ (c .before .hand-over .ensures) (c .before .before .before .before .loop .inv .2))
+hand-over-requires-2 c κs =
+    let init = c .before .before .before .before .before .init in
+    let loop = c .before .before .before .before .loop in
+    (omega arith, init .ensures .1, one-queued (handOver-queued _ _) _ _ (c .before .hand-over .ensures) (loop .inv .2))
 
 add-hand-over-2 : tie.Need-add-hand-over-2 Inv-loop μ-loop
 add-hand-over-2 c = search needs
 
 hand-over-requires-3 : tie.Need-hand-over-requires-3 Inv-loop μ-loop
 unfolding slotCount
-hand-over-requires-3 c κs = (omega arith, c .before .before .before .before .before .before .before .init .ensures .1, one-queued (handOver-queued _ _) _ _ (c .before .hand-over2 .ensures) (one-queued (handOver-queued _ _) _ _ (c .before .before .before .hand-over .ensures) (c .before .before .before .before .before .before .loop .inv .2)))
+hand-over-requires-3 c κs =
+    let init = c .before .before .before .before .before .before .before .init in
+    let loop = c .before .before .before .before .before .before .loop in
+    let hand-over = c .before .before .before .hand-over in
+    (omega arith, init .ensures .1, one-queued (handOver-queued _ _) _ _ (c .before .hand-over2 .ensures) (one-queued (handOver-queued _ _) _ _ (hand-over .ensures) (loop .inv .2)))
 
 add-hand-over-3 : tie.Need-add-hand-over-3 Inv-loop μ-loop
 add-hand-over-3 c = search needs
 
 hand-over-requires-4 : tie.Need-hand-over-requires-4 Inv-loop μ-loop
 unfolding slotCount
-hand-over-requires-4 c κs = (omega arith, c .before .before .before .before .before .before .before .before .before .init .ensures .1, one-queued (handOver-queued _ _) _ _ (c .before .hand-over3 .ensures) (one-queued (handOver-queued _ _) _ _ (c .before .before .before .hand-over2 .ensures) (one-queued (handOver-queued _ _) _ _ (c .before .before .before .before .before .hand-over .ensures) (c .before .before .before .before .before .before .before .before .loop .inv .2))))
+hand-over-requires-4 c κs =
+    let init = c .before .before .before .before .before .before .before .before .before .init in
+    let loop = c .before .before .before .before .before .before .before .before .loop in
+    let hand-over = c .before .before .before .before .before .hand-over in
+    let hand-over2 = c .before .before .before .hand-over2 in
+    (omega arith, init .ensures .1, one-queued (handOver-queued _ _) _ _ (c .before .hand-over3 .ensures) (one-queued (handOver-queued _ _) _ _ (hand-over2 .ensures) (one-queued (handOver-queued _ _) _ _ (hand-over .ensures) (loop .inv .2))))
 
 add-b : tie.Need-add-b Inv-loop μ-loop
 add-b c = search needs
@@ -70,8 +84,10 @@ loop-again c = (
 
 returns : tie.Need-returns Inv-loop μ-loop
 unfolding slotCount
-returns c = let e : 4 * c .before .loop .b ≡ slotCount = omega arith in
-    reparent-all _ (tableOf (c .before .before .before .before .args .t .now)) _ (c .before .before .init .ensures .0) (rw e at (c .before .loop .inv .1))
+returns c =
+    let entry = c .before .before .before .before in
+    let e : 4 * c .before .loop .b ≡ slotCount = omega arith in
+    reparent-all _ (tableOf (entry .args .t .now)) _ (c .before .before .init .ensures .0) (rw e at (c .before .loop .inv .1))
 
 pub reparent-spec : {M : Type 1} → statement M
 reparent-spec = tie.close (tie.spec Inv-loop μ-loop init-requires loop-holds mul-i hand-over-requires add-hand-over hand-over-requires-2 add-hand-over-2 hand-over-requires-3 add-hand-over-3 hand-over-requires-4 add-b loop-less loop-again returns)

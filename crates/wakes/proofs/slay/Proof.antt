@@ -19,16 +19,28 @@ set-meta-requires : tie.Need-set-meta-requires
 set-meta-requires c κs = search needs
 
 make-runnable-requires : tie.Need-make-runnable-requires
-make-runnable-requires c κs = (c .before .before .before .before .before .before .before .before .before .pre .0, rw (c .before .before .set-meta .ensures, change-queue) (room-asleep _ (c .before .before .before .before .before .before .before .before .before .args .i) (c .before .before .before .before .before .before .before .before .before .pre .1) (sym (c .before .before .before .before .before .before .before .is .ensures) ∙ c .before .if1 .taken)))
+make-runnable-requires c κs =
+    let entry = c .before .before .before .before .before .before .before .before .before in
+    let is = c .before .before .before .before .before .before .before .is in
+    (entry .pre .0, rw (c .before .before .set-meta .ensures, change-queue) (room-asleep _ (entry .args .i) (entry .pre .1) (sym (is .ensures) ∙ c .before .if1 .taken)))
 
 returns : tie.Need-returns
-returns c = c .make-runnable .ensures
-    ∙ ap (onCore (publish _)) (c .before .before .before .set-meta .ensures ∙ meta-change (tableOf (c .before .before .before .before .before .before .before .before .before .before .args .t .now)) (c .before .before .before .before .before .before .before .before .before .before .args .i) _ asKilled (ap asKilled (c .before .before .before .before .before .before .meta-at .ensures)))
-    ∙ slay-asleep (tableOf (c .before .before .before .before .before .before .before .before .before .before .args .t .now)) (c .before .before .before .before .before .before .before .before .before .before .args .i) (sym (c .before .before .before .before .before .before .before .before .is .ensures) ∙ c .before .before .if1 .taken)
+returns c =
+    let entry = c .before .before .before .before .before .before .before .before .before .before in
+    let is = c .before .before .before .before .before .before .before .before .is in
+    let meta-at = c .before .before .before .before .before .before .meta-at in
+    let set-meta = c .before .before .before .set-meta in
+    c .make-runnable .ensures
+    ∙ ap (onCore (publish _)) (set-meta .ensures ∙ meta-change (tableOf (entry .args .t .now)) (entry .args .i) _ asKilled (ap asKilled (meta-at .ensures)))
+    ∙ slay-asleep (tableOf (entry .args .t .now)) (entry .args .i) (sym (is .ensures) ∙ c .before .before .if1 .taken)
 
 returns-2 : tie.Need-returns-2
-returns-2 c = c .before .set-meta .ensures ∙ meta-change (tableOf (c .before .before .before .before .before .before .before .before .args .t .now)) (c .before .before .before .before .before .before .before .before .args .i) _ asKilled (ap asKilled (c .before .before .before .before .meta-at .ensures))
-    ∙ slay-awake (tableOf (c .before .before .before .before .before .before .before .before .args .t .now)) (c .before .before .before .before .before .before .before .before .args .i) (sym (c .before .before .before .before .before .before .is .ensures) ∙ c .if1 .left)
+returns-2 c =
+    let entry = c .before .before .before .before .before .before .before .before in
+    let is = c .before .before .before .before .before .before .is in
+    let meta-at = c .before .before .before .before .meta-at in
+    c .before .set-meta .ensures ∙ meta-change (tableOf (entry .args .t .now)) (entry .args .i) _ asKilled (ap asKilled (meta-at .ensures))
+    ∙ slay-awake (tableOf (entry .args .t .now)) (entry .args .i) (sym (is .ensures) ∙ c .if1 .left)
 
 pub slay-spec : {M : Type 1} → statement M
 slay-spec =

@@ -15,13 +15,18 @@ returns : tie.Need-returns
 returns c = wake-nobody _ (tableOf (c .before .before .args .t .now)) (cc)
 
 own-channel-requires : tie.Need-own-channel-requires
-own-channel-requires c κs = subst InTable (c .before .before .p .given .1) (c .before .before .before .before .pre .0)
+own-channel-requires c κs =
+    let entry = c .before .before .before .before in
+    subst InTable (c .before .before .p .given .1) (entry .pre .0)
 
 wake-up-requires : tie.Need-wake-up-requires
 wake-up-requires c κs = search needs
 
 returns-2 : tie.Need-returns-2
-returns-2 c = (rw (c .before .own-channel .ensures) at (c .wake-up .ensures)) ∙ wake-somebody (c .before .before .before .before .before .before .args .p) _ (tableOf (c .before .before .before .before .before .before .args .t .now)) (c .before .before .before .before .p .given .1)
+returns-2 c =
+    let entry = c .before .before .before .before .before .before in
+    let p = c .before .before .before .before .p in
+    (rw (c .before .own-channel .ensures) at (c .wake-up .ensures)) ∙ wake-somebody (entry .args .p) _ (tableOf (entry .args .t .now)) (p .given .1)
 
 pub wake-of-spec : {M : Type 1} → statement M
 wake-of-spec = tie.close (tie.spec enum-known-p enum-told returns own-channel-requires wake-up-requires returns-2)

@@ -13,17 +13,30 @@ is-requires : tie.Need-is-requires
 is-requires c κs = search needs
 
 make-runnable-requires : tie.Need-make-runnable-requires
-make-runnable-requires c κs = (c .before .before .before .before .before .before .before .before .pre .0, room-asleep _ (c .before .before .before .before .before .before .before .before .args .i) (c .before .before .before .before .before .before .before .before .pre .1) (sym (c .before .before .before .before .before .before .is .ensures) ∙ c .before .before .before .before .before .if1 .taken))
+make-runnable-requires c κs =
+    let entry = c .before .before .before .before .before .before .before .before in
+    let is = c .before .before .before .before .before .before .is in
+    let if1 = c .before .before .before .before .before .if1 in
+    (entry .pre .0, room-asleep _ (entry .args .i) (entry .pre .1) (sym (is .ensures) ∙ if1 .taken))
 
 returns : tie.Need-returns
-returns c = c .make-runnable .ensures ∙ wake-this (c .before .before .before .before .before .before .before .before .before .args .channel) (c .before .before .before .before .before .before .before .before .before .args .i) (tableOf (c .before .before .before .before .before .before .before .before .before .args .t .now)) (sym (c .before .before .before .before .before .before .before .is .ensures) ∙ c .before .before .before .before .before .before .if1 .taken)
-    (ap (λ (m : ProcMeta). m .channel) (sym (c .before .before .before .before .meta-at .ensures)) ∙ c .before .before .if2 .taken)
+returns c =
+    let entry = c .before .before .before .before .before .before .before .before .before in
+    let is = c .before .before .before .before .before .before .before .is in
+    let if1 = c .before .before .before .before .before .before .if1 in
+    let meta-at = c .before .before .before .before .meta-at in
+    c .make-runnable .ensures ∙ wake-this (entry .args .channel) (entry .args .i) (tableOf (entry .args .t .now)) (sym (is .ensures) ∙ if1 .taken)
+    (ap (λ (m : ProcMeta). m .channel) (sym (meta-at .ensures)) ∙ c .before .before .if2 .taken)
 
 returns-2 : tie.Need-returns-2
-returns-2 c = wake-other (c .before .before .before .before .before .before .before .args .channel) (c .before .before .before .before .before .before .before .args .i) (tableOf (c .before .before .before .before .before .before .before .args .t .now)) (λ e. c .if2 .left (ap (λ (m : ProcMeta). m .channel) (c .before .before .meta-at .ensures) ∙ e))
+returns-2 c =
+    let entry = c .before .before .before .before .before .before .before in
+    wake-other (entry .args .channel) (entry .args .i) (tableOf (entry .args .t .now)) (λ e. c .if2 .left (ap (λ (m : ProcMeta). m .channel) (c .before .before .meta-at .ensures) ∙ e))
 
 returns-3 : tie.Need-returns-3
-returns-3 c = wake-awake (c .before .before .before .args .channel) (c .before .before .before .args .i) (tableOf (c .before .before .before .args .t .now)) (sym (c .before .is .ensures) ∙ c .if1 .left)
+returns-3 c =
+    let entry = c .before .before .before in
+    wake-awake (entry .args .channel) (entry .args .i) (tableOf (entry .args .t .now)) (sym (c .before .is .ensures) ∙ c .if1 .left)
 
 pub wake-one-spec : {M : Type 1} → statement M
 wake-one-spec = tie.close (tie.spec is-requires meta-at-requires make-runnable-requires returns returns-2 returns-3)

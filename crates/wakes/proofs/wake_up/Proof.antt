@@ -34,21 +34,30 @@ add-wake-one c = search needs
 
 wake-one-requires-2 : tie.Need-wake-one-requires-2 Inv-loop μ-loop
 unfolding slotCount
-wake-one-requires-2 c κs = (omega arith, one-queued (wakeOne-queued _) _ _ (c .before .wake-one .ensures) (c .before .before .before .before .loop .inv .2))
+wake-one-requires-2 c κs =
+    let loop = c .before .before .before .before .loop in
+    (omega arith, one-queued (wakeOne-queued _) _ _ (c .before .wake-one .ensures) (loop .inv .2))
 
 add-wake-one-2 : tie.Need-add-wake-one-2 Inv-loop μ-loop
 add-wake-one-2 c = search needs
 
 wake-one-requires-3 : tie.Need-wake-one-requires-3 Inv-loop μ-loop
 unfolding slotCount
-wake-one-requires-3 c κs = (omega arith, one-queued (wakeOne-queued _) _ _ (c .before .wake-one2 .ensures) (one-queued (wakeOne-queued _) _ _ (c .before .before .before .wake-one .ensures) (c .before .before .before .before .before .before .loop .inv .2)))
+wake-one-requires-3 c κs =
+    let loop = c .before .before .before .before .before .before .loop in
+    let wake-one = c .before .before .before .wake-one in
+    (omega arith, one-queued (wakeOne-queued _) _ _ (c .before .wake-one2 .ensures) (one-queued (wakeOne-queued _) _ _ (wake-one .ensures) (loop .inv .2)))
 
 add-wake-one-3 : tie.Need-add-wake-one-3 Inv-loop μ-loop
 add-wake-one-3 c = search needs
 
 wake-one-requires-4 : tie.Need-wake-one-requires-4 Inv-loop μ-loop
 unfolding slotCount
-wake-one-requires-4 c κs = (omega arith, one-queued (wakeOne-queued _) _ _ (c .before .wake-one3 .ensures) (one-queued (wakeOne-queued _) _ _ (c .before .before .before .wake-one2 .ensures) (one-queued (wakeOne-queued _) _ _ (c .before .before .before .before .before .wake-one .ensures) (c .before .before .before .before .before .before .before .before .loop .inv .2))))
+wake-one-requires-4 c κs =
+    let loop = c .before .before .before .before .before .before .before .before .loop in
+    let wake-one = c .before .before .before .before .before .wake-one in
+    let wake-one2 = c .before .before .before .wake-one2 in
+    (omega arith, one-queued (wakeOne-queued _) _ _ (c .before .wake-one3 .ensures) (one-queued (wakeOne-queued _) _ _ (wake-one2 .ensures) (one-queued (wakeOne-queued _) _ _ (wake-one .ensures) (loop .inv .2))))
 
 add-b : tie.Need-add-b Inv-loop μ-loop
 add-b c = search needs

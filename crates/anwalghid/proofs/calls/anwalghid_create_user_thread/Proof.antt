@@ -10,7 +10,9 @@ returns c = record { leaves = other-number _ _ _ (c .if1 .taken); sound = c .bef
 
 returns-2 : tie.Need-returns-2
 unfolding isMapped
-returns-2 c = rw (out-of-range _ _ (le-ltb (c .before .before .args .mapped) 16 (c .if2 .taken))) (not-called _ (c .before .if1 .left) _ (c .before .before .pre))
+returns-2 c =
+    let entry = c .before .before in
+    rw (out-of-range _ _ (le-ltb (entry .args .mapped) 16 (c .if2 .taken))) (not-called _ (c .before .if1 .left) _ (entry .pre))
 
 index-1-create-user-thread : tie.Need-index-1-create-user-thread
 index-1-create-user-thread c = search needs
@@ -19,7 +21,10 @@ mapped-of-requires : tie.Need-mapped-of-requires
 mapped-of-requires c κs = search needs
 
 create-user-thread-requires : tie.Need-create-user-thread-requires
-create-user-thread-requires c κs = first-sound _ (c .before .before .before .if1 .left) (c .before .before .before .before .pre)
+create-user-thread-requires c κs =
+    let entry = c .before .before .before .before in
+    let if1 = c .before .before .before .if1 in
+    first-sound _ (if1 .left) (entry .pre)
 
 words-of-requires : tie.Need-words-of-requires
 words-of-requires c κs = search needs
@@ -29,7 +34,11 @@ same-length c = search needs
 
 returns-3 : tie.Need-returns-3
 unfolding isMapped
-returns-3 c = rw (in-range _ _ (lt-ltb (c .before .before .before .before .before .before .args .mapped) 16 (c .before .before .before .before .if2 .left))) (answered _ (c .before .before .before .before .before .if1 .left) _ (rw (c .before .before .mapped-of .ensures) at (c .before .create-user-thread .ensures)) (c .words-of .ensures))
+returns-3 c =
+    let entry = c .before .before .before .before .before .before in
+    let if1 = c .before .before .before .before .before .if1 in
+    let if2 = c .before .before .before .before .if2 in
+    rw (in-range _ _ (lt-ltb (entry .args .mapped) 16 (if2 .left))) (answered _ (if1 .left) _ (rw (c .before .before .mapped-of .ensures) at (c .before .create-user-thread .ensures)) (c .words-of .ensures))
 
 pub anwalghid-create-user-thread-spec : {M : Type 1} → statement M
 anwalghid-create-user-thread-spec =

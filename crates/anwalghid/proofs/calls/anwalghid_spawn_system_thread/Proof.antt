@@ -10,7 +10,9 @@ index-1-spawn-system-thread : tie.Need-index-1-spawn-system-thread
 index-1-spawn-system-thread c = search needs
 
 spawn-system-thread-requires : tie.Need-spawn-system-thread-requires
-spawn-system-thread-requires c κs = first-sound _ (c .before .if1 .left) (c .before .before .before .pre)
+spawn-system-thread-requires c κs =
+    let entry = c .before .before .before in
+    first-sound _ (c .before .if1 .left) (entry .pre)
 
 words-of-requires : tie.Need-words-of-requires
 words-of-requires c κs = search needs
@@ -19,7 +21,9 @@ same-length : tie.Need-same-length
 same-length c = search needs
 
 returns-2 : tie.Need-returns-2
-returns-2 c = answered _ (c .before .before .before .if1 .left) _ (c .before .spawn-system-thread .ensures) (c .words-of .ensures)
+returns-2 c =
+    let if1 = c .before .before .before .if1 in
+    answered _ (if1 .left) _ (c .before .spawn-system-thread .ensures) (c .words-of .ensures)
 
 pub anwalghid-spawn-system-thread-spec : {M : Type 1} → statement M
 anwalghid-spawn-system-thread-spec =

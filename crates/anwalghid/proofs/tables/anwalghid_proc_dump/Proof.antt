@@ -23,7 +23,10 @@ same-length c = search needs
 
 returns-2 : tie.Need-returns-2
 unfolding listed
-returns-2 c = text-seen _ (c .before .before .before .before .before .before .if1 .left) _ (c .before .before .before .dump-into .ensures .1) (c .room-words .ensures ∙ ap roomWords (c .before .before .before .dump-into .ensures .0))
+returns-2 c =
+    let if1 = c .before .before .before .before .before .before .if1 in
+    let dump-into = c .before .before .before .dump-into in
+    text-seen _ (if1 .left) _ (dump-into .ensures .1) (c .room-words .ensures ∙ ap roomWords (dump-into .ensures .0))
 
 pub anwalghid-proc-dump-spec : {M : Type 1} → statement M
 anwalghid-proc-dump-spec =

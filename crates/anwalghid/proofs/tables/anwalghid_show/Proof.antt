@@ -13,7 +13,9 @@ shared-slice-element-show-into : tie.Need-shared-slice-element-show-into
 shared-slice-element-show-into c = search needs
 
 show-into-requires : tie.Need-show-into-requires
-show-into-requires c κs = first-sound _ (c .before .before .if1 .left) (c .before .before .before .before .pre)
+show-into-requires c κs =
+    let entry = c .before .before .before .before in
+    first-sound _ (c .before .before .if1 .left) (entry .pre)
 
 room-words-requires : tie.Need-room-words-requires
 room-words-requires c κs = search needs
@@ -23,7 +25,10 @@ same-length c = search needs
 
 returns-2 : tie.Need-returns-2
 unfolding shown
-returns-2 c = text-seen _ (c .before .before .before .before .before .before .if1 .left) _ (c .before .before .before .show-into .ensures .1) (c .room-words .ensures ∙ ap roomWords (c .before .before .before .show-into .ensures .0))
+returns-2 c =
+    let if1 = c .before .before .before .before .before .before .if1 in
+    let show-into = c .before .before .before .show-into in
+    text-seen _ (if1 .left) _ (show-into .ensures .1) (c .room-words .ensures ∙ ap roomWords (show-into .ensures .0))
 
 pub anwalghid-show-spec : {M : Type 1} → statement M
 anwalghid-show-spec =

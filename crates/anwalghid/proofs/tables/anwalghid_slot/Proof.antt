@@ -23,7 +23,10 @@ see-requires c κs = c .before .if2 .left
 
 returns-3 : tie.Need-returns-3
 unfolding slotCount slotSeen
-returns-3 c = rw (in-range _ _ (lt-ltb (c .before .before .before .before .args .s) slotCount (c .before .before .if2 .left))) (seen-one _ (c .before .before .before .if1 .left) _ (c .see .ensures))
+returns-3 c =
+    let entry = c .before .before .before .before in
+    let if1 = c .before .before .before .if1 in
+    rw (in-range _ _ (lt-ltb (entry .args .s) slotCount (c .before .before .if2 .left))) (seen-one _ (if1 .left) _ (c .see .ensures))
 
 pub anwalghid-slot-spec : {M : Type 1} → statement M
 anwalghid-slot-spec =

@@ -27,7 +27,9 @@ part-write-end : tie.Need-part-write-end
 part-write-end c = omega (arith, long (c .before .before .before))
 
 write-requires : tie.Need-write-requires
-write-requires c κs = rw (text (c .before .before .before .before)) (c .before .before .before .before .before .before .pre)
+write-requires c κs =
+    let entry = c .before .before .before .before .before .before in
+    rw (text (c .before .before .before .before)) (entry .pre)
 
 same-length : tie.Need-same-length
 same-length c = search needs

@@ -36,17 +36,21 @@ loop-less c = omega arith
 
 loop-again : tie.Need-loop-again Inv-loop μ-loop
 loop-again c =
-    let l = name-length (c .before .before .before .before .before .args .a) (c .before .before .before .before .before .args .b) in
-    rw (c .show .ensures) (shown-more (c .before .before .before .loop .inv) (omega arith) (c .before .if1 .left))
+    let entry = c .before .before .before .before .before in
+    let loop = c .before .before .before .loop in
+    let l = name-length (entry .args .a) (entry .args .b) in
+    rw (c .show .ensures) (shown-more (loop .inv) (omega arith) (c .before .if1 .left))
 
 returns : tie.Need-returns Inv-loop μ-loop
 returns c =
-    let l = name-length (c .before .before .before .args .a) (c .before .before .before .args .b) in
+    let entry = c .before .before .before in
+    let l = name-length (entry .args .a) (entry .args .b) in
     (shown-all (c .before .loop .inv) (omega arith), omega arith)
 
 returns-2 : tie.Need-returns-2 Inv-loop μ-loop
 returns-2 c =
-    let l = name-length (c .before .before .before .before .args .a) (c .before .before .before .before .args .b) in
+    let entry = c .before .before .before .before in
+    let l = name-length (entry .args .a) (entry .args .b) in
     (shown-zero (c .before .before .loop .inv) (omega arith) (c .if1 .taken), omega arith)
 
 pub shown-name-spec : {M : Type 1} → statement M

@@ -20,7 +20,9 @@ kind-requires : tie.Need-kind-requires Inv-loop μ-loop
 kind-requires c κs = c .before .before .pre .1
 
 loop-holds : tie.Need-loop-holds Inv-loop μ-loop
-loop-holds c = begun (c .before .before .before .args .k) (c .before .before .before .args .line .now) (c .before .before .before .args .at) (c .before .before .before .args .w .now) (c .before .before .before .pre .0) (c .before .before .before .pre .2) (c .kind .ensures)
+loop-holds c =
+    let entry = c .before .before .before in
+    begun (entry .args .k) (entry .args .line .now) (entry .args .at) (entry .args .w .now) (entry .pre .0) (entry .pre .2) (c .kind .ensures)
 
 next-requires : tie.Need-next-requires Inv-loop μ-loop
 next-requires c κs = c .before .loop .inv .within
@@ -41,49 +43,94 @@ enum-known-v : tie.Need-enum-known-v Inv-loop μ-loop
 enum-known-v c = search needs
 
 add-w : tie.Need-add-w Inv-loop μ-loop
-add-w c = omega (arith, one-more _ _ _ _ (c .before .before .before .before .before .before .before .loop .inv) (c .before .before .before .before .before .before .loop-test .taken), kinds-few (c .before .before .before .before .before .before .before .before .before .before .before .args .k) (c .before .before .before .before .before .before .before .before .before .before .before .pre .1))
+add-w c =
+    let entry = c .before .before .before .before .before .before .before .before .before .before .before in
+    let loop = c .before .before .before .before .before .before .before .loop in
+    let loop-test = c .before .before .before .before .before .before .loop-test in
+    omega (arith, one-more _ _ _ _ (loop .inv) (loop-test .taken), kinds-few (entry .args .k) (entry .pre .1))
 
 mul-w : tie.Need-mul-w Inv-loop μ-loop
-mul-w c = omega (arith, one-more _ _ _ _ (c .before .before .before .before .before .before .before .loop .inv) (c .before .before .before .before .before .before .loop-test .taken), kinds-few (c .before .before .before .before .before .before .before .before .before .before .before .args .k) (c .before .before .before .before .before .before .before .before .before .before .before .pre .1))
+mul-w c =
+    let entry = c .before .before .before .before .before .before .before .before .before .before .before in
+    let loop = c .before .before .before .before .before .before .before .loop in
+    let loop-test = c .before .before .before .before .before .before .loop-test in
+    omega (arith, one-more _ _ _ _ (loop .inv) (loop-test .taken), kinds-few (entry .args .k) (entry .pre .1))
 
 slice-write-w : tie.Need-slice-write-w Inv-loop μ-loop
-slice-write-w c = omega (arith, one-more _ _ _ _ (c .before .before .before .before .before .before .before .loop .inv) (c .before .before .before .before .before .before .loop-test .taken), kinds-few (c .before .before .before .before .before .before .before .before .before .before .before .args .k) (c .before .before .before .before .before .before .before .before .before .before .before .pre .1), wrote-long (c .before .before .before .before .before .before .before .loop .inv .wrote), c .before .before .before .before .before .before .before .before .before .before .before .pre .2)
+slice-write-w c =
+    let entry = c .before .before .before .before .before .before .before .before .before .before .before in
+    let loop = c .before .before .before .before .before .before .before .loop in
+    let loop-test = c .before .before .before .before .before .before .loop-test in
+    omega (arith, one-more _ _ _ _ (loop .inv) (loop-test .taken), kinds-few (entry .args .k) (entry .pre .1), wrote-long (loop .inv .wrote), entry .pre .2)
 
 enum-known-why : tie.Need-enum-known-why Inv-loop μ-loop
 enum-known-why c = search needs
 
 same-length : tie.Need-same-length Inv-loop μ-loop
-same-length c = wrote-long (c .before .before .before .before .before .before .before .loop .inv .wrote)
+same-length c =
+    let loop = c .before .before .before .before .before .before .before .loop in
+    wrote-long (loop .inv .wrote)
 
 returns : tie.Need-returns Inv-loop μ-loop
-returns c = one-not _ _ _ _ (c .before .before .before .before .before .before .before .loop .inv) (c .before .before .before .before .before .before .loop-test .taken) (c .before .before .before .before .before .next .ensures) (sym (c .before .why .given .1) ∙ c .before .before .before .argument .ensures) _
+returns c =
+    let loop = c .before .before .before .before .before .before .before .loop in
+    let loop-test = c .before .before .before .before .before .before .loop-test in
+    let next = c .before .before .before .before .before .next in
+    let argument = c .before .before .before .argument in
+    one-not _ _ _ _ (loop .inv) (loop-test .taken) (next .ensures) (sym (c .before .why .given .1) ∙ argument .ensures) _
 
 add-i : tie.Need-add-i Inv-loop μ-loop
-add-i c = omega (arith, one-more _ _ _ _ (c .before .before .before .before .before .before .before .loop .inv) (c .before .before .before .before .before .before .loop-test .taken), kinds-few (c .before .before .before .before .before .before .before .before .before .before .before .args .k) (c .before .before .before .before .before .before .before .before .before .before .before .pre .1))
+add-i c =
+    let entry = c .before .before .before .before .before .before .before .before .before .before .before in
+    let loop = c .before .before .before .before .before .before .before .loop in
+    let loop-test = c .before .before .before .before .before .before .loop-test in
+    omega (arith, one-more _ _ _ _ (loop .inv) (loop-test .taken), kinds-few (entry .args .k) (entry .pre .1))
 
 kind-requires-2 : tie.Need-kind-requires-2 Inv-loop μ-loop
-kind-requires-2 c κs = c .before .before .before .before .before .before .before .before .before .before .before .pre .1
+kind-requires-2 c κs =
+    let entry = c .before .before .before .before .before .before .before .before .before .before .before in
+    entry .pre .1
 
 loop-less : tie.Need-loop-less Inv-loop μ-loop
-loop-less c = omega (arith, one-more _ _ _ _ (c .before .before .before .before .before .before .before .before .loop .inv) (c .before .before .before .before .before .before .before .loop-test .taken))
+loop-less c =
+    let loop = c .before .before .before .before .before .before .before .before .loop in
+    let loop-test = c .before .before .before .before .before .before .before .loop-test in
+    omega (arith, one-more _ _ _ _ (loop .inv) (loop-test .taken))
 
 loop-again : tie.Need-loop-again Inv-loop μ-loop
-loop-again c = next _ _ _ _ (c .before .before .before .before .before .before .before .before .loop .inv) (c .before .before .before .before .before .before .before .loop-test .taken) (c .before .before .before .before .before .before .next .ensures) (sym (c .before .before .v .given .1) ∙ c .before .before .before .before .argument .ensures) (c .before .before .before .before .before .before .before .before .before .before .before .before .pre .1) (c .before .before .before .before .before .before .before .before .before .before .before .before .pre .2) (c .kind2 .ensures)
+loop-again c =
+    let entry = c .before .before .before .before .before .before .before .before .before .before .before .before in
+    let loop = c .before .before .before .before .before .before .before .before .loop in
+    let loop-test = c .before .before .before .before .before .before .before .loop-test in
+    let argument = c .before .before .before .before .argument in
+    next _ _ _ _ (loop .inv) (loop-test .taken) (c .before .before .before .before .before .before .next .ensures) (sym (c .before .before .v .given .1) ∙ argument .ensures) (entry .pre .1) (entry .pre .2) (c .kind2 .ensures)
 
 next-requires-2 : tie.Need-next-requires-2 Inv-loop μ-loop
 next-requires-2 c κs = c .before .loop .inv .within
 
 same-length-2 : tie.Need-same-length-2 Inv-loop μ-loop
-same-length-2 c = wrote-long (c .before .before .before .before .loop .inv .wrote)
+same-length-2 c =
+    let loop = c .before .before .before .before .loop in
+    wrote-long (loop .inv .wrote)
 
 returns-2 : tie.Need-returns-2 Inv-loop μ-loop
-returns-2 c = too-many _ _ _ _ (c .before .before .before .before .loop .inv) (c .before .before .before .before .before .before .before .before .pre .1) (c .before .before .before .loop-test .left) (c .before .before .next2 .ensures) (c .if1 .taken)
+returns-2 c =
+    let entry = c .before .before .before .before .before .before .before .before in
+    let loop = c .before .before .before .before .loop in
+    let loop-test = c .before .before .before .loop-test in
+    too-many _ _ _ _ (loop .inv) (entry .pre .1) (loop-test .left) (c .before .before .next2 .ensures) (c .if1 .taken)
 
 same-length-3 : tie.Need-same-length-3 Inv-loop μ-loop
-same-length-3 c = wrote-long (c .before .before .before .before .loop .inv .wrote)
+same-length-3 c =
+    let loop = c .before .before .before .before .loop in
+    wrote-long (loop .inv .wrote)
 
 returns-3 : tie.Need-returns-3 Inv-loop μ-loop
-returns-3 c = all-there _ _ _ _ (c .before .before .before .before .loop .inv) (c .before .before .before .before .before .before .before .before .pre .1) (c .before .before .before .loop-test .left) (c .before .before .next2 .ensures) (c .if1 .left)
+returns-3 c =
+    let entry = c .before .before .before .before .before .before .before .before in
+    let loop = c .before .before .before .before .loop in
+    let loop-test = c .before .before .before .loop-test in
+    all-there _ _ _ _ (loop .inv) (entry .pre .1) (loop-test .left) (c .before .before .next2 .ensures) (c .if1 .left)
 
 pub read-spec : {M : Type 1} → statement M
 read-spec =

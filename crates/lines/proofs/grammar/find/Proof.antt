@@ -42,7 +42,12 @@ same-requires c κs = search needs
 
 returns : tie.Need-returns Inv-loop μ-loop
 unfolding bytes
-returns c = walk-found names (c .before .before .before .before .before .before .before .before .before .args .w .now) (c .before .before .before .before .before .before .before .loop .inv) (c .before .before .before .before .before .before .loop-test .taken) (c .before .before .before .before .next .ensures) (c .before .same .ensures) (c .if1 .taken)
+returns c =
+    let entry = c .before .before .before .before .before .before .before .before .before in
+    let loop = c .before .before .before .before .before .before .before .loop in
+    let loop-test = c .before .before .before .before .before .before .loop-test in
+    let next = c .before .before .before .before .next in
+    walk-found names (entry .args .w .now) (loop .inv) (loop-test .taken) (next .ensures) (c .before .same .ensures) (c .if1 .taken)
 
 add-k : tie.Need-add-k Inv-loop μ-loop
 add-k c = omega arith
@@ -52,10 +57,17 @@ loop-less c = omega arith
 
 loop-again : tie.Need-loop-again Inv-loop μ-loop
 unfolding bytes
-loop-again c = walk-goes names (c .before .before .before .before .before .before .before .before .before .args .w .now) (c .before .before .before .before .before .before .before .loop .inv) (c .before .before .before .before .before .before .loop-test .taken) (c .before .before .before .before .next .ensures) (c .before .same .ensures) (c .if1 .left)
+loop-again c =
+    let entry = c .before .before .before .before .before .before .before .before .before in
+    let loop = c .before .before .before .before .before .before .before .loop in
+    let loop-test = c .before .before .before .before .before .before .loop-test in
+    let next = c .before .before .before .before .next in
+    walk-goes names (entry .args .w .now) (loop .inv) (loop-test .taken) (next .ensures) (c .before .same .ensures) (c .if1 .left)
 
 returns-2 : tie.Need-returns-2 Inv-loop μ-loop
-returns-2 c = walk-ends names (c .before .before .before .args .w .now) (c .before .loop .inv) (c .loop-test .left)
+returns-2 c =
+    let entry = c .before .before .before in
+    walk-ends names (entry .args .w .now) (c .before .loop .inv) (c .loop-test .left)
 
 pub find-spec : {M : Type 1} → statement M
 find-spec =

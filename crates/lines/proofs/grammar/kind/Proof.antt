@@ -16,7 +16,9 @@ index-2-result c = search needs
 
 returns : tie.Need-returns
 unfolding row rows grammar command bytes
-returns c = kind-there (c .before .before .args .k) (c .before .before .args .i) (c .before .before .pre) (c .before .if1 .taken)
+returns c =
+    let entry = c .before .before in
+    kind-there (entry .args .k) (entry .args .i) (entry .pre) (c .before .if1 .taken)
 
 returns-2 : tie.Need-returns-2
 returns-2 c = kind-past (c .before .args .k) (c .before .args .i) (c .before .pre) (c .if1 .left)

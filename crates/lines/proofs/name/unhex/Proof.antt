@@ -14,7 +14,9 @@ abbrev μ-loop : tie.MeasureT-loop
 μ-loop w out₀ n j₀ out j = n - j
 
 loop-holds : tie.Need-loop-holds Inv-loop μ-loop
-loop-holds c = (refl, unhex-starts (c .before .before .args .w .now) (c .before .before .args .out .now))
+loop-holds c =
+    let entry = c .before .before in
+    (refl, unhex-starts (entry .args .w .now) (entry .args .out .now))
 
 mul-nibble : tie.Need-mul-nibble Inv-loop μ-loop
 mul-nibble c = omega (arith, c .before .loop .inv .0)
@@ -26,13 +28,19 @@ nibble-requires : tie.Need-nibble-requires Inv-loop μ-loop
 nibble-requires c κs = search needs
 
 mul-nibble-2 : tie.Need-mul-nibble-2 Inv-loop μ-loop
-mul-nibble-2 c = omega (arith, c .before .before .before .loop .inv .0)
+mul-nibble-2 c =
+    let loop = c .before .before .before .loop in
+    omega (arith, loop .inv .0)
 
 add-nibble : tie.Need-add-nibble Inv-loop μ-loop
-add-nibble c = omega (arith, c .before .before .before .loop .inv .0)
+add-nibble c =
+    let loop = c .before .before .before .loop in
+    omega (arith, loop .inv .0)
 
 shared-slice-read-nibble-2 : tie.Need-shared-slice-read-nibble-2 Inv-loop μ-loop
-shared-slice-read-nibble-2 c = omega (arith, c .before .before .before .before .loop .inv .0)
+shared-slice-read-nibble-2 c =
+    let loop = c .before .before .before .before .loop in
+    omega (arith, loop .inv .0)
 
 nibble-requires-2 : tie.Need-nibble-requires-2 Inv-loop μ-loop
 nibble-requires-2 c κs = search needs
@@ -44,25 +52,40 @@ add-out : tie.Need-add-out Inv-loop μ-loop
 add-out c = omega (arith, c .before .before .nibble .ensures .1, c .nibble2 .ensures .1)
 
 cast-out : tie.Need-cast-out Inv-loop μ-loop
-cast-out c = omega (arith, c .before .before .nibble .ensures .0, c .nibble2 .ensures .0, byte-fits (c .before .before .before .before .before .loop .inv .1) (c .before .before .before .before .before .before .before .before .pre .0) (rw (c .before .before .before .before .before .loop .inv .0) at (c .before .before .before .before .loop-test .taken)))
+cast-out c =
+    let entry = c .before .before .before .before .before .before .before .before in
+    let loop = c .before .before .before .before .before .loop in
+    let loop-test = c .before .before .before .before .loop-test in
+    omega (arith, c .before .before .nibble .ensures .0, c .nibble2 .ensures .0, byte-fits (loop .inv .1) (entry .pre .0) (rw (loop .inv .0) at (loop-test .taken)))
 
 slice-write-out : tie.Need-slice-write-out Inv-loop μ-loop
-slice-write-out c = omega (arith, c .before .before .before .before .before .loop .inv .0, c .before .before .before .before .before .loop .inv .1 .long, c .before .before .before .before .before .before .before .before .pre .1)
+slice-write-out c =
+    let entry = c .before .before .before .before .before .before .before .before in
+    let loop = c .before .before .before .before .before .loop in
+    omega (arith, loop .inv .0, loop .inv .1 .long, entry .pre .1)
 
 add-j : tie.Need-add-j Inv-loop μ-loop
-add-j c = omega (arith, c .before .before .before .before .before .loop .inv .0)
+add-j c =
+    let loop = c .before .before .before .before .before .loop in
+    omega (arith, loop .inv .0)
 
 loop-less : tie.Need-loop-less Inv-loop μ-loop
 loop-less c = omega arith
 
 loop-again : tie.Need-loop-again Inv-loop μ-loop
-loop-again c = (c .before .before .before .before .before .loop .inv .0, unhex-goes (c .before .before .before .before .before .loop .inv .1) (c .before .before .nibble .ensures .0) (c .nibble2 .ensures .0) (rw (c .before .before .before .before .before .loop .inv .0) at (c .before .before .before .before .loop-test .taken)) (c .before .before .before .before .before .before .before .before .pre .1))
+loop-again c =
+    let entry = c .before .before .before .before .before .before .before .before in
+    let loop = c .before .before .before .before .before .loop in
+    let loop-test = c .before .before .before .before .loop-test in
+    (loop .inv .0, unhex-goes (loop .inv .1) (c .before .before .nibble .ensures .0) (c .nibble2 .ensures .0) (rw (loop .inv .0) at (loop-test .taken)) (entry .pre .1))
 
 same-length : tie.Need-same-length Inv-loop μ-loop
 same-length c = c .before .loop .inv .1 .long
 
 returns : tie.Need-returns Inv-loop μ-loop
-returns c = rw (c .before .loop .inv .0) (unhex-ends (c .before .loop .inv .1) (rw (c .before .loop .inv .0) at (c .loop-test .left)) (c .before .before .before .before .pre .1))
+returns c =
+    let entry = c .before .before .before .before in
+    rw (c .before .loop .inv .0) (unhex-ends (c .before .loop .inv .1) (rw (c .before .loop .inv .0) at (c .loop-test .left)) (entry .pre .1))
 
 pub unhex-spec : {M : Type 1} → statement M
 unhex-spec =

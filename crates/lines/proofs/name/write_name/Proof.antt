@@ -11,7 +11,9 @@ is-hex-requires : tie.Need-is-hex-requires
 is-hex-requires c κs = search needs
 
 sub-unhex : tie.Need-sub-unhex
-sub-unhex c = hex-long (c .before .before .before .before .args .w .now) (sym (c .before .is-hex .ensures) ∙ c .if1 .taken)
+sub-unhex c =
+    let entry = c .before .before .before .before in
+    hex-long (entry .args .w .now) (sym (c .before .is-hex .ensures) ∙ c .if1 .taken)
 
 part-unhex-start : tie.Need-part-unhex-start
 part-unhex-start c = search (needs, hex-long (c .before .before .before .before .args .w .now) (sym (c .before .is-hex .ensures) ∙ c .if1 .taken))
@@ -20,13 +22,20 @@ part-unhex-end : tie.Need-part-unhex-end
 part-unhex-end c = search needs
 
 unhex-requires : tie.Need-unhex-requires
-unhex-requires c κs = rw (part-from (c .before .before .before .before .before .before .args .w .now) 4 (length (c .before .before .before .before .before .before .args .w .now)) refl) (hex-digits (c .before .before .before .before .before .before .args .w .now) (c .before .before .before .before .before .before .pre .0) (sym (c .before .before .before .is-hex .ensures) ∙ c .before .before .if1 .taken), omega (arith, length-drop 4 (c .before .before .before .before .before .before .args .w .now), c .before .before .before .before .before .before .pre .1))
+unhex-requires c κs =
+    let entry = c .before .before .before .before .before .before in
+    let is-hex = c .before .before .before .is-hex in
+    rw (part-from (entry .args .w .now) 4 (length (entry .args .w .now)) refl) (hex-digits (entry .args .w .now) (entry .pre .0) (sym (is-hex .ensures) ∙ c .before .before .if1 .taken), omega (arith, length-drop 4 (entry .args .w .now), entry .pre .1))
 
 same-length : tie.Need-same-length
 same-length c = search needs
 
 returns : tie.Need-returns
-returns c = rw (hex-name (c .before .before .before .before .before .before .before .before .before .args .w .now) (sym (c .before .before .before .before .before .before .is-hex .ensures) ∙ c .before .before .before .before .before .if1 .taken), ← part-from (c .before .before .before .before .before .before .before .before .before .args .w .now) 4 (length (c .before .before .before .before .before .before .before .before .before .args .w .now)) refl) (c .before .before .unhex .ensures)
+returns c =
+    let entry = c .before .before .before .before .before .before .before .before .before in
+    let is-hex = c .before .before .before .before .before .before .is-hex in
+    let if1 = c .before .before .before .before .before .if1 in
+    rw (hex-name (entry .args .w .now) (sym (is-hex .ensures) ∙ if1 .taken), ← part-from (entry .args .w .now) 4 (length (entry .args .w .now)) refl) (c .before .before .unhex .ensures)
 
 write-requires : tie.Need-write-requires
 write-requires c κs = search needs
@@ -35,7 +44,11 @@ same-length-2 : tie.Need-same-length-2
 same-length-2 c = search needs
 
 returns-2 : tie.Need-returns-2
-returns-2 c = rw (own-name (c .before .before .before .before .before .before .before .before .args .w .now) (sym (c .before .before .before .before .before .is-hex .ensures) ∙ c .before .before .before .before .if1 .left)) (c .before .before .write .ensures)
+returns-2 c =
+    let entry = c .before .before .before .before .before .before .before .before in
+    let is-hex = c .before .before .before .before .before .is-hex in
+    let if1 = c .before .before .before .before .if1 in
+    rw (own-name (entry .args .w .now) (sym (is-hex .ensures) ∙ if1 .left)) (c .before .before .write .ensures)
 
 pub write-name-spec : {M : Type 1} → statement M
 write-name-spec =

@@ -24,7 +24,11 @@ nibble-requires : tie.Need-nibble-requires Inv-loop μ-loop
 nibble-requires c κs = search needs
 
 returns : tie.Need-returns Inv-loop μ-loop
-returns c = sym (c .before .before .before .before .loop .inv .1 ∙ below-not (c .before .before .before .before .before .before .args .base) (c .before .before .before .before .before .before .args .w .now) (c .before .before .before .before .loop .j) (c .before .before .before .loop-test .taken) (rw (c .before .nibble .ensures .0) at (c .if1 .taken)))
+returns c =
+    let entry = c .before .before .before .before .before .before in
+    let loop = c .before .before .before .before .loop in
+    let loop-test = c .before .before .before .loop-test in
+    sym (loop .inv .1 ∙ below-not (entry .args .base) (entry .args .w .now) (loop .j) (loop-test .taken) (rw (c .before .nibble .ensures .0) at (c .if1 .taken)))
 
 add-j : tie.Need-add-j Inv-loop μ-loop
 add-j c = omega arith
@@ -33,10 +37,16 @@ loop-less : tie.Need-loop-less Inv-loop μ-loop
 loop-less c = omega arith
 
 loop-again : tie.Need-loop-again Inv-loop μ-loop
-loop-again c = (omega arith, c .before .before .before .before .loop .inv .1 ∙ below-on (c .before .before .before .before .before .before .args .base) (c .before .before .before .before .before .before .args .w .now) (c .before .before .before .before .loop .j) (c .before .before .before .loop-test .taken) (rw (c .before .nibble .ensures .0) at (c .if1 .left)))
+loop-again c =
+    let entry = c .before .before .before .before .before .before in
+    let loop = c .before .before .before .before .loop in
+    let loop-test = c .before .before .before .loop-test in
+    (omega arith, loop .inv .1 ∙ below-on (entry .args .base) (entry .args .w .now) (loop .j) (loop-test .taken) (rw (c .before .nibble .ensures .0) at (c .if1 .left)))
 
 returns-2 : tie.Need-returns-2 Inv-loop μ-loop
-returns-2 c = sym (c .before .loop .inv .1 ∙ below-end (c .before .before .before .args .base) (c .before .before .before .args .w .now) (c .before .loop .j) (c .loop-test .left))
+returns-2 c =
+    let entry = c .before .before .before in
+    sym (c .before .loop .inv .1 ∙ below-end (entry .args .base) (entry .args .w .now) (c .before .loop .j) (c .loop-test .left))
 
 pub all-below-spec : {M : Type 1} → statement M
 all-below-spec =

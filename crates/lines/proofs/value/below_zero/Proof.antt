@@ -18,10 +18,14 @@ enum-known-v-2 : tie.Need-enum-known-v-2
 enum-known-v-2 c = search needs
 
 returns : tie.Need-returns
-returns c = c .negative .ensures ∙ then-is negative (sym (c .before .before .v .given .1) ∙ c .before .before .before .before .number .ensures)
+returns c =
+    let number = c .before .before .before .before .number in
+    c .negative .ensures ∙ then-is negative (sym (c .before .before .v .given .1) ∙ number .ensures)
 
 returns-2 : tie.Need-returns-2
-returns-2 c = then-no negative (sym (c .before .v2 .given .1) ∙ c .before .before .before .number .ensures)
+returns-2 c =
+    let number = c .before .before .before .number in
+    then-no negative (sym (c .before .v2 .given .1) ∙ number .ensures)
 
 pub below-zero-spec : {M : Type 1} → statement M
 below-zero-spec =

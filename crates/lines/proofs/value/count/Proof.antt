@@ -25,7 +25,9 @@ below-zero-requires : tie.Need-below-zero-requires
 below-zero-requires c κs = search needs
 
 returns-2 : tie.Need-returns-2
-returns-2 c = minus-count (c .before .before .before .before .before .before .args .w .now) (c .before .before .if2 .taken) (part-from (c .before .before .before .before .before .before .args .w .now) 1 _ refl) (c .below-zero .ensures)
+returns-2 c =
+    let entry = c .before .before .before .before .before .before in
+    minus-count (entry .args .w .now) (c .before .before .if2 .taken) (part-from (entry .args .w .now) 1 _ refl) (c .below-zero .ensures)
 
 number-requires : tie.Need-number-requires
 number-requires c κs = search needs
@@ -40,10 +42,18 @@ enum-known-v-2 : tie.Need-enum-known-v-2
 enum-known-v-2 c = search needs
 
 returns-3 : tie.Need-returns-3
-returns-3 c = plain-count (c .before .before .before .before .before .before .before .before .before .args .w .now) (c .before .before .before .before .before .if2 .left) (c .positive .ensures ∙ then-is positive (sym (c .before .before .v .given .1) ∙ c .before .before .before .before .number .ensures))
+returns-3 c =
+    let entry = c .before .before .before .before .before .before .before .before .before in
+    let if2 = c .before .before .before .before .before .if2 in
+    let number = c .before .before .before .before .number in
+    plain-count (entry .args .w .now) (if2 .left) (c .positive .ensures ∙ then-is positive (sym (c .before .before .v .given .1) ∙ number .ensures))
 
 returns-4 : tie.Need-returns-4
-returns-4 c = plain-count (c .before .before .before .before .before .before .before .before .args .w .now) (c .before .before .before .before .if2 .left) (then-no positive (sym (c .before .v2 .given .1) ∙ c .before .before .before .number .ensures))
+returns-4 c =
+    let entry = c .before .before .before .before .before .before .before .before in
+    let if2 = c .before .before .before .before .if2 in
+    let number = c .before .before .before .number in
+    plain-count (entry .args .w .now) (if2 .left) (then-no positive (sym (c .before .v2 .given .1) ∙ number .ensures))
 
 pub count-spec : {M : Type 1} → statement M
 count-spec =

@@ -23,11 +23,17 @@ same-requires-2 c κs = search needs
 
 returns-2 : tie.Need-returns-2
 unfolding flagIn bytes
-returns-2 c = rw (sym (c .before .before .before .before .same .ensures) ∙ c .before .before .before .if1 .left, sym (c .before .same2 .ensures) ∙ c .if2 .taken)
+returns-2 c =
+    let same = c .before .before .before .before .same in
+    let if1 = c .before .before .before .if1 in
+    rw (sym (same .ensures) ∙ if1 .left, sym (c .before .same2 .ensures) ∙ c .if2 .taken)
 
 returns-3 : tie.Need-returns-3
 unfolding flagIn bytes
-returns-3 c = rw (sym (c .before .before .before .before .same .ensures) ∙ c .before .before .before .if1 .left, sym (c .before .same2 .ensures) ∙ c .if2 .left)
+returns-3 c =
+    let same = c .before .before .before .before .same in
+    let if1 = c .before .before .before .if1 in
+    rw (sym (same .ensures) ∙ if1 .left, sym (c .before .same2 .ensures) ∙ c .if2 .left)
 
 pub flag-spec : {M : Type 1} → statement M
 flag-spec =

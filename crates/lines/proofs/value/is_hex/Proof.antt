@@ -11,7 +11,9 @@ returns : tie.Need-returns
 returns c = sym (short-hex (c .before .before .args .w .now) (c .if1 .taken))
 
 slice-aggregate-same : tie.Need-slice-aggregate-same
-slice-aggregate-same c = sym (length-take-le 4 (c .before .before .before .args .w .now) (c .before .if1 .left))
+slice-aggregate-same c =
+    let entry = c .before .before .before in
+    sym (length-take-le 4 (entry .args .w .now) (c .before .if1 .left))
 
 slice-aggregate-same-2 : tie.Need-slice-aggregate-same-2
 slice-aggregate-same-2 c = search needs

@@ -10,13 +10,19 @@ is-hex-requires : tie.Need-is-hex-requires
 is-hex-requires c κs = search needs
 
 returns : tie.Need-returns
-returns c = plain-name (c .before .before .before .args .w .now) (sym (c .before .is-hex .ensures) ∙ not-true _ (c .if1 .taken))
+returns c =
+    let entry = c .before .before .before in
+    plain-name (entry .args .w .now) (sym (c .before .is-hex .ensures) ∙ not-true _ (c .if1 .taken))
 
 returns-2 : tie.Need-returns-2
-returns-2 c = odd-hex (c .before .before .before .before .args .w .now) (sym (c .before .before .is-hex .ensures) ∙ not-false _ (c .before .if1 .left)) (c .if2 .taken)
+returns-2 c =
+    let entry = c .before .before .before .before in
+    odd-hex (entry .args .w .now) (sym (c .before .before .is-hex .ensures) ∙ not-false _ (c .before .if1 .left)) (c .if2 .taken)
 
 sub-all-below : tie.Need-sub-all-below
-sub-all-below c = hex-long (c .before .before .before .before .args .w .now) (sym (c .before .before .is-hex .ensures) ∙ not-false _ (c .before .if1 .left))
+sub-all-below c =
+    let entry = c .before .before .before .before in
+    hex-long (entry .args .w .now) (sym (c .before .before .is-hex .ensures) ∙ not-false _ (c .before .if1 .left))
 
 part-all-below-start : tie.Need-part-all-below-start
 part-all-below-start c = search (needs, hex-long (c .before .before .before .before .args .w .now) (sym (c .before .before .is-hex .ensures) ∙ not-false _ (c .before .if1 .left)))
@@ -28,13 +34,26 @@ all-below-requires : tie.Need-all-below-requires
 all-below-requires c κs = search needs
 
 returns-3 : tie.Need-returns-3
-returns-3 c = bad-hex (c .before .before .before .before .before .before .before .args .w .now) (sym (c .before .before .before .before .before .is-hex .ensures) ∙ not-false _ (c .before .before .before .before .if1 .left)) (part-from (c .before .before .before .before .before .before .before .args .w .now) 4 _ refl) (sym (c .before .all-below .ensures) ∙ not-true _ (c .if3 .taken))
+returns-3 c =
+    let entry = c .before .before .before .before .before .before .before in
+    let is-hex = c .before .before .before .before .before .is-hex in
+    let if1 = c .before .before .before .before .if1 in
+    bad-hex (entry .args .w .now) (sym (is-hex .ensures) ∙ not-false _ (if1 .left)) (part-from (entry .args .w .now) 4 _ refl) (sym (c .before .all-below .ensures) ∙ not-true _ (c .if3 .taken))
 
 sub-t6 : tie.Need-sub-t6
-sub-t6 c = hex-long (c .before .before .before .before .before .before .before .args .w .now) (sym (c .before .before .before .before .before .is-hex .ensures) ∙ not-false _ (c .before .before .before .before .if1 .left))
+sub-t6 c =
+    let entry = c .before .before .before .before .before .before .before in
+    let is-hex = c .before .before .before .before .before .is-hex in
+    let if1 = c .before .before .before .before .if1 in
+    hex-long (entry .args .w .now) (sym (is-hex .ensures) ∙ not-false _ (if1 .left))
 
 returns-4 : tie.Need-returns-4
-returns-4 c = good-hex (c .before .before .before .before .before .before .before .args .w .now) (sym (c .before .before .before .before .before .is-hex .ensures) ∙ not-false _ (c .before .before .before .before .if1 .left)) (part-from (c .before .before .before .before .before .before .before .args .w .now) 4 _ refl) (c .before .before .before .if2 .left) (sym (c .before .all-below .ensures) ∙ not-false _ (c .if3 .left))
+returns-4 c =
+    let entry = c .before .before .before .before .before .before .before in
+    let is-hex = c .before .before .before .before .before .is-hex in
+    let if1 = c .before .before .before .before .if1 in
+    let if2 = c .before .before .before .if2 in
+    good-hex (entry .args .w .now) (sym (is-hex .ensures) ∙ not-false _ (if1 .left)) (part-from (entry .args .w .now) 4 _ refl) (if2 .left) (sym (c .before .all-below .ensures) ∙ not-false _ (c .if3 .left))
 
 pub name-worth-spec : {M : Type 1} → statement M
 name-worth-spec =

@@ -14,7 +14,9 @@ returns c = rw (lt-leb (c .before .args .n) (2 ^ 63) (c .if1 .taken))
 
 returns-2 : tie.Need-returns-2
 unfolding negative
-returns-2 c = rw (le-leb (c .before .before .args .n) (2 ^ 63) (c .before .if1 .left), eq-eqb (c .before .before .args .n) 0 (c .if2 .taken))
+returns-2 c =
+    let entry = c .before .before in
+    rw (le-leb (entry .args .n) (2 ^ 63) (c .before .if1 .left), eq-eqb (entry .args .n) 0 (c .if2 .taken))
 
 sub-t4 : tie.Need-sub-t4
 sub-t4 c = search needs
@@ -24,7 +26,9 @@ sub-t5 c = search needs
 
 returns-3 : tie.Need-returns-3
 unfolding negative
-returns-3 c = rw (le-leb (c .before .before .args .n) (2 ^ 63) (c .before .if1 .left), ne-eqb (c .before .before .args .n) 0 (c .if2 .left)) (let z : 2 ^ 64 - 1 - (c .before .before .args .n - 1) ≡ 2 ^ 64 - c .before .before .args .n = negate (c .before .before .args .n) (c .if2 .left) (c .before .if1 .left) in ap Is z)
+returns-3 c =
+    let entry = c .before .before in
+    rw (le-leb (entry .args .n) (2 ^ 63) (c .before .if1 .left), ne-eqb (entry .args .n) 0 (c .if2 .left)) (let z : 2 ^ 64 - 1 - (entry .args .n - 1) ≡ 2 ^ 64 - entry .args .n = negate (entry .args .n) (c .if2 .left) (c .before .if1 .left) in ap Is z)
 
 pub negative-spec : {M : Type 1} → statement M
 negative-spec = tie.close (tie.spec returns returns-2 sub-t4 sub-t5 returns-3)

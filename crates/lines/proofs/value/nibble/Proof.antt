@@ -23,7 +23,9 @@ inside-requires-2 : tie.Need-inside-requires-2
 inside-requires-2 c κs = search needs
 
 sub-result-2 : tie.Need-sub-result-2
-sub-result-2 c = inside-in 65 70 (c .before .before .before .before .args .b) (sym (c .before .inside2 .ensures) ∙ c .if2 .taken) .0
+sub-result-2 c =
+    let entry = c .before .before .before .before in
+    inside-in 65 70 (entry .args .b) (sym (c .before .inside2 .ensures) ∙ c .if2 .taken) .0
 
 cast-result-2 : tie.Need-cast-result-2
 cast-result-2 c = search needs
@@ -33,13 +35,18 @@ add-result c = search needs
 
 returns-2 : tie.Need-returns-2
 unfolding nibble
-returns-2 c = (rw (sym (c .before .before .before .inside .ensures) ∙ c .before .before .if1 .left, sym (c .before .inside2 .ensures) ∙ c .if2 .taken), omega (arith, inside-in 65 70 (c .before .before .before .before .args .b) (sym (c .before .inside2 .ensures) ∙ c .if2 .taken)))
+returns-2 c =
+    let entry = c .before .before .before .before in
+    let inside = c .before .before .before .inside in
+    (rw (sym (inside .ensures) ∙ c .before .before .if1 .left, sym (c .before .inside2 .ensures) ∙ c .if2 .taken), omega (arith, inside-in 65 70 (entry .args .b) (sym (c .before .inside2 .ensures) ∙ c .if2 .taken)))
 
 inside-requires-3 : tie.Need-inside-requires-3
 inside-requires-3 c κs = search needs
 
 sub-result-3 : tie.Need-sub-result-3
-sub-result-3 c = inside-in 97 102 (c .before .before .before .before .before .before .args .b) (sym (c .before .inside3 .ensures) ∙ c .if3 .taken) .0
+sub-result-3 c =
+    let entry = c .before .before .before .before .before .before in
+    inside-in 97 102 (entry .args .b) (sym (c .before .inside3 .ensures) ∙ c .if3 .taken) .0
 
 cast-result-3 : tie.Need-cast-result-3
 cast-result-3 c = search needs
@@ -49,11 +56,20 @@ add-result-2 c = search needs
 
 returns-3 : tie.Need-returns-3
 unfolding nibble
-returns-3 c = (rw (sym (c .before .before .before .before .before .inside .ensures) ∙ c .before .before .before .before .if1 .left, sym (c .before .before .before .inside2 .ensures) ∙ c .before .before .if2 .left, sym (c .before .inside3 .ensures) ∙ c .if3 .taken), omega (arith, inside-in 97 102 (c .before .before .before .before .before .before .args .b) (sym (c .before .inside3 .ensures) ∙ c .if3 .taken)))
+returns-3 c =
+    let entry = c .before .before .before .before .before .before in
+    let inside = c .before .before .before .before .before .inside in
+    let if1 = c .before .before .before .before .if1 in
+    let inside2 = c .before .before .before .inside2 in
+    (rw (sym (inside .ensures) ∙ if1 .left, sym (inside2 .ensures) ∙ c .before .before .if2 .left, sym (c .before .inside3 .ensures) ∙ c .if3 .taken), omega (arith, inside-in 97 102 (entry .args .b) (sym (c .before .inside3 .ensures) ∙ c .if3 .taken)))
 
 returns-4 : tie.Need-returns-4
 unfolding nibble
-returns-4 c = (rw (sym (c .before .before .before .before .before .inside .ensures) ∙ c .before .before .before .before .if1 .left, sym (c .before .before .before .inside2 .ensures) ∙ c .before .before .if2 .left, sym (c .before .inside3 .ensures) ∙ c .if3 .left), omega arith)
+returns-4 c =
+    let inside = c .before .before .before .before .before .inside in
+    let if1 = c .before .before .before .before .if1 in
+    let inside2 = c .before .before .before .inside2 in
+    (rw (sym (inside .ensures) ∙ if1 .left, sym (inside2 .ensures) ∙ c .before .before .if2 .left, sym (c .before .inside3 .ensures) ∙ c .if3 .left), omega arith)
 
 pub nibble-spec : {M : Type 1} → statement M
 nibble-spec =

@@ -22,7 +22,9 @@ all-below-requires : tie.Need-all-below-requires Inv-loop μ-loop
 all-below-requires c κs = search needs
 
 returns-2 : tie.Need-returns-2 Inv-loop μ-loop
-returns-2 c = not-digits (c .before .before .before .before .args .w .now) (sym (c .before .all-below .ensures) ∙ not-true _ (c .if2 .taken))
+returns-2 c =
+    let entry = c .before .before .before .before in
+    not-digits (entry .args .w .now) (sym (c .before .all-below .ensures) ∙ not-true _ (c .if2 .taken))
 
 loop-holds : tie.Need-loop-holds Inv-loop μ-loop
 loop-holds c = (omega arith, refl, omega arith)
@@ -37,7 +39,14 @@ sub-if3 : tie.Need-sub-if3 Inv-loop μ-loop
 sub-if3 c = omega (arith, c .nibble .ensures .1)
 
 returns-3 : tie.Need-returns-3 Inv-loop μ-loop
-returns-3 c = too-large (c .before .before .before .before .before .before .before .before .before .args .w .now) (c .before .before .before .before .before .before .before .if1 .left) (sym (c .before .before .before .before .before .before .all-below .ensures) ∙ not-false _ (c .before .before .before .before .before .if2 .left)) (rw (c .before .before .before .before .loop .inv .1) (read-large (c .before .before .before .before .before .before .before .before .before .args .w .now) (c .before .before .before .before .loop .n) (c .before .before .before .before .loop .j) (c .before .before .before .loop-test .taken) (below-at 10 (c .before .before .before .before .before .before .before .before .before .args .w .now) (c .before .before .before .before .loop .j) (sym (c .before .before .before .before .before .before .all-below .ensures) ∙ not-false _ (c .before .before .before .before .before .if2 .left)) (c .before .before .before .loop-test .taken)) (rw (c .before .nibble .ensures .0) at (c .if3 .taken))))
+returns-3 c =
+    let entry = c .before .before .before .before .before .before .before .before .before in
+    let if1 = c .before .before .before .before .before .before .before .if1 in
+    let all-below = c .before .before .before .before .before .before .all-below in
+    let if2 = c .before .before .before .before .before .if2 in
+    let loop = c .before .before .before .before .loop in
+    let loop-test = c .before .before .before .loop-test in
+    too-large (entry .args .w .now) (if1 .left) (sym (all-below .ensures) ∙ not-false _ (if2 .left)) (rw (loop .inv .1) (read-large (entry .args .w .now) (loop .n) (loop .j) (loop-test .taken) (below-at 10 (entry .args .w .now) (loop .j) (sym (all-below .ensures) ∙ not-false _ (if2 .left)) (loop-test .taken)) (rw (c .before .nibble .ensures .0) at (c .if3 .taken))))
 
 mul-n : tie.Need-mul-n Inv-loop μ-loop
 mul-n c = omega arith
@@ -52,10 +61,20 @@ loop-less : tie.Need-loop-less Inv-loop μ-loop
 loop-less c = omega arith
 
 loop-again : tie.Need-loop-again Inv-loop μ-loop
-loop-again c = (omega arith, c .before .before .before .before .loop .inv .1 ∙ rw (c .before .nibble .ensures .0) (read-on (c .before .before .before .before .before .before .before .before .before .args .w .now) (c .before .before .before .before .loop .n) (c .before .before .before .before .loop .j) (c .before .before .before .loop-test .taken) (below-at 10 (c .before .before .before .before .before .before .before .before .before .args .w .now) (c .before .before .before .before .loop .j) (sym (c .before .before .before .before .before .before .all-below .ensures) ∙ not-false _ (c .before .before .before .before .before .if2 .left)) (c .before .before .before .loop-test .taken))), omega arith)
+loop-again c =
+    let entry = c .before .before .before .before .before .before .before .before .before in
+    let all-below = c .before .before .before .before .before .before .all-below in
+    let if2 = c .before .before .before .before .before .if2 in
+    let loop = c .before .before .before .before .loop in
+    let loop-test = c .before .before .before .loop-test in
+    (omega arith, loop .inv .1 ∙ rw (c .before .nibble .ensures .0) (read-on (entry .args .w .now) (loop .n) (loop .j) (loop-test .taken) (below-at 10 (entry .args .w .now) (loop .j) (sym (all-below .ensures) ∙ not-false _ (if2 .left)) (loop-test .taken))), omega arith)
 
 returns-4 : tie.Need-returns-4 Inv-loop μ-loop
-returns-4 c = number-is (c .before .before .before .before .before .before .args .w .now) (c .before .before .before .before .if1 .left) (sym (c .before .before .before .all-below .ensures) ∙ not-false _ (c .before .before .if2 .left)) (c .before .loop .inv .1 ∙ read-end (c .before .before .before .before .before .before .args .w .now) (c .before .loop .n) (c .before .loop .j) (c .loop-test .left)) (c .before .loop .inv .2)
+returns-4 c =
+    let entry = c .before .before .before .before .before .before in
+    let if1 = c .before .before .before .before .if1 in
+    let all-below = c .before .before .before .all-below in
+    number-is (entry .args .w .now) (if1 .left) (sym (all-below .ensures) ∙ not-false _ (c .before .before .if2 .left)) (c .before .loop .inv .1 ∙ read-end (entry .args .w .now) (c .before .loop .n) (c .before .loop .j) (c .loop-test .left)) (c .before .loop .inv .2)
 
 pub number-spec : {M : Type 1} → statement M
 number-spec =

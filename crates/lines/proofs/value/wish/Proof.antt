@@ -23,7 +23,10 @@ same-requires-2 c κs = search needs
 
 returns-2 : tie.Need-returns-2
 unfolding wishIn bytes
-returns-2 c = rw (sym (c .before .before .before .before .same .ensures) ∙ c .before .before .before .if1 .left, sym (c .before .same2 .ensures) ∙ c .if2 .taken)
+returns-2 c =
+    let same = c .before .before .before .before .same in
+    let if1 = c .before .before .before .if1 in
+    rw (sym (same .ensures) ∙ if1 .left, sym (c .before .same2 .ensures) ∙ c .if2 .taken)
 
 slice-aggregate-same-3 : tie.Need-slice-aggregate-same-3
 slice-aggregate-same-3 c = search needs
@@ -33,11 +36,21 @@ same-requires-3 c κs = search needs
 
 returns-3 : tie.Need-returns-3
 unfolding wishIn bytes
-returns-3 c = rw (sym (c .before .before .before .before .before .before .before .same .ensures) ∙ c .before .before .before .before .before .before .if1 .left, sym (c .before .before .before .before .same2 .ensures) ∙ c .before .before .before .if2 .left, sym (c .before .same3 .ensures) ∙ c .if3 .taken)
+returns-3 c =
+    let same = c .before .before .before .before .before .before .before .same in
+    let if1 = c .before .before .before .before .before .before .if1 in
+    let same2 = c .before .before .before .before .same2 in
+    let if2 = c .before .before .before .if2 in
+    rw (sym (same .ensures) ∙ if1 .left, sym (same2 .ensures) ∙ if2 .left, sym (c .before .same3 .ensures) ∙ c .if3 .taken)
 
 returns-4 : tie.Need-returns-4
 unfolding wishIn bytes
-returns-4 c = rw (sym (c .before .before .before .before .before .before .before .same .ensures) ∙ c .before .before .before .before .before .before .if1 .left, sym (c .before .before .before .before .same2 .ensures) ∙ c .before .before .before .if2 .left, sym (c .before .same3 .ensures) ∙ c .if3 .left)
+returns-4 c =
+    let same = c .before .before .before .before .before .before .before .same in
+    let if1 = c .before .before .before .before .before .before .if1 in
+    let same2 = c .before .before .before .before .same2 in
+    let if2 = c .before .before .before .if2 in
+    rw (sym (same .ensures) ∙ if1 .left, sym (same2 .ensures) ∙ if2 .left, sym (c .before .same3 .ensures) ∙ c .if3 .left)
 
 pub wish-spec : {M : Type 1} → statement M
 wish-spec =

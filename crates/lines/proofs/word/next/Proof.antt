@@ -10,7 +10,9 @@ skip-requires-2 : tie.Need-skip-requires-2
 skip-requires-2 c κs = search needs
 
 returns : tie.Need-returns
-returns c = cut (c .before .before .before .args .l .now) (c .before .before .before .args .at) (c .before .skip .result) (c .skip2 .result) (c .before .skip .ensures .0) (c .skip2 .ensures .0) (c .skip2 .ensures .1)
+returns c =
+    let entry = c .before .before .before in
+    cut (entry .args .l .now) (entry .args .at) (c .before .skip .result) (c .skip2 .result) (c .before .skip .ensures .0) (c .skip2 .ensures .0) (c .skip2 .ensures .1)
 
 pub next-spec : {M : Type 1} → statement M
 next-spec = tie.close (tie.spec skip-requires skip-requires-2 returns)

@@ -23,10 +23,17 @@ shared-slice-read-if2 : tie.Need-shared-slice-read-if2 Inv-loop μ-loop
 shared-slice-read-if2 c = omega arith
 
 shared-slice-read-if2-2 : tie.Need-shared-slice-read-if2-2 Inv-loop μ-loop
-shared-slice-read-if2-2 c = omega (arith, c .before .before .before .before .if1 .left)
+shared-slice-read-if2-2 c =
+    let if1 = c .before .before .before .before .if1 in
+    omega (arith, if1 .left)
 
 returns-2 : tie.Need-returns-2 Inv-loop μ-loop
-returns-2 c = sym (c .before .before .before .before .loop .inv .1 ∙ same-not (c .before .before .before .before .before .before .args .a .now) (c .before .before .before .before .before .before .args .b .now) (c .before .before .before .before .loop .j) (c .before .before .before .before .before .if1 .left) (c .before .before .before .loop-test .taken) (c .if2 .taken))
+returns-2 c =
+    let entry = c .before .before .before .before .before .before in
+    let if1 = c .before .before .before .before .before .if1 in
+    let loop = c .before .before .before .before .loop in
+    let loop-test = c .before .before .before .loop-test in
+    sym (loop .inv .1 ∙ same-not (entry .args .a .now) (entry .args .b .now) (loop .j) (if1 .left) (loop-test .taken) (c .if2 .taken))
 
 add-j : tie.Need-add-j Inv-loop μ-loop
 add-j c = omega arith
@@ -35,10 +42,17 @@ loop-less : tie.Need-loop-less Inv-loop μ-loop
 loop-less c = omega arith
 
 loop-again : tie.Need-loop-again Inv-loop μ-loop
-loop-again c = (omega arith, c .before .before .before .before .loop .inv .1 ∙ same-on (c .before .before .before .before .before .before .args .a .now) (c .before .before .before .before .before .before .args .b .now) (c .before .before .before .before .loop .j) (c .before .before .before .before .before .if1 .left) (c .before .before .before .loop-test .taken) (c .if2 .left))
+loop-again c =
+    let entry = c .before .before .before .before .before .before in
+    let if1 = c .before .before .before .before .before .if1 in
+    let loop = c .before .before .before .before .loop in
+    let loop-test = c .before .before .before .loop-test in
+    (omega arith, loop .inv .1 ∙ same-on (entry .args .a .now) (entry .args .b .now) (loop .j) (if1 .left) (loop-test .taken) (c .if2 .left))
 
 returns-3 : tie.Need-returns-3 Inv-loop μ-loop
-returns-3 c = sym (c .before .loop .inv .1 ∙ same-end (c .before .before .before .args .a .now) (c .before .before .before .args .b .now) (c .before .loop .j) (c .before .before .if1 .left) (c .loop-test .left))
+returns-3 c =
+    let entry = c .before .before .before in
+    sym (c .before .loop .inv .1 ∙ same-end (entry .args .a .now) (entry .args .b .now) (c .before .loop .j) (c .before .before .if1 .left) (c .loop-test .left))
 
 pub same-spec : {M : Type 1} → statement M
 same-spec =

@@ -25,7 +25,11 @@ space-is-requires : tie.Need-space-is-requires Inv-loop μ-loop
 space-is-requires c κs = search needs
 
 returns : tie.Need-returns Inv-loop μ-loop
-returns c = (omega (arith, c .before .before .before .before .loop .inv .2, passes-not (spaceIs (c .before .before .before .before .before .before .args .spaces)) (c .before .before .before .before .before .before .args .l .now) (c .before .before .before .before .loop .j) (c .before .before .before .loop-test .taken) (sym (c .before .space-is .ensures) ∙ not-true _ (c .if1 .taken))), c .before .before .before .before .loop .inv .1)
+returns c =
+    let entry = c .before .before .before .before .before .before in
+    let loop = c .before .before .before .before .loop in
+    let loop-test = c .before .before .before .loop-test in
+    (omega (arith, loop .inv .2, passes-not (spaceIs (entry .args .spaces)) (entry .args .l .now) (loop .j) (loop-test .taken) (sym (c .before .space-is .ensures) ∙ not-true _ (c .if1 .taken))), loop .inv .1)
 
 add-j : tie.Need-add-j Inv-loop μ-loop
 add-j c = omega arith
@@ -34,10 +38,16 @@ loop-less : tie.Need-loop-less Inv-loop μ-loop
 loop-less c = omega arith
 
 loop-again : tie.Need-loop-again Inv-loop μ-loop
-loop-again c = (omega arith, omega arith, c .before .before .before .before .loop .inv .2 ∙ omega (arith, passes-on (spaceIs (c .before .before .before .before .before .before .args .spaces)) (c .before .before .before .before .before .before .args .l .now) (c .before .before .before .before .loop .j) (c .before .before .before .loop-test .taken) (sym (c .before .space-is .ensures) ∙ not-false _ (c .if1 .left))))
+loop-again c =
+    let entry = c .before .before .before .before .before .before in
+    let loop = c .before .before .before .before .loop in
+    let loop-test = c .before .before .before .loop-test in
+    (omega arith, omega arith, loop .inv .2 ∙ omega (arith, passes-on (spaceIs (entry .args .spaces)) (entry .args .l .now) (loop .j) (loop-test .taken) (sym (c .before .space-is .ensures) ∙ not-false _ (c .if1 .left))))
 
 returns-2 : tie.Need-returns-2 Inv-loop μ-loop
-returns-2 c = (omega (arith, c .before .loop .inv .2, passes-all (spaceIs (c .before .before .before .args .spaces)) (c .before .before .before .args .l .now) (c .before .loop .j) (c .loop-test .left)), c .before .loop .inv .1)
+returns-2 c =
+    let entry = c .before .before .before in
+    (omega (arith, c .before .loop .inv .2, passes-all (spaceIs (entry .args .spaces)) (entry .args .l .now) (c .before .loop .j) (c .loop-test .left)), c .before .loop .inv .1)
 
 pub skip-spec : {M : Type 1} → statement M
 skip-spec =

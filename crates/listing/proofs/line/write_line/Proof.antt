@@ -12,21 +12,28 @@ use Rattle.listing.proofs.line.write_line.Statement.{statement}
 use Rattle.listing.proofs.line.write_line.Tie as tie
 
 abbrev pidOf : tie.After-start-at → List ℕ
-pidOf c = pidText (c .before .before .before .meta-at .result .pid .0)
+pidOf c =
+    let meta-at = c .before .before .before .meta-at in
+    pidText (meta-at .result .pid .0)
 
 abbrev stateOf : tie.After-start-at → List ℕ
-stateOf c = stateLabelled (c .before .before .before .meta-at .result .state)
+stateOf c =
+    let meta-at = c .before .before .before .meta-at in
+    stateLabelled (meta-at .result .state)
 
 abbrev nameOf : tie.After-start-at → List ℕ
 nameOf c = nameLabelled (bytesOf (c .start-at .result .name0) ++ bytesOf (c .start-at .result .name1))
 
 pieces : (c : tie.After-start-at) → lineAt (tableOf (c .before .before .before .before .before .args .t .now)) (c .before .before .before .before .before .args .s) ≡ pidOf c ++ stateOf c ++ nameOf c
 pieces c =
-    let m = c .before .before .before .meta-at in
+    let meta-at = c .before .before .before .meta-at in
+    let m = meta-at in
     line-here _ _ (m .result) (m .ensures) (c .start-at .result) (c .start-at .ensures) (used (m .result .state) (c .before .before .match .keys2))
 
 room : (c : tie.After-start-at) → c .before .before .before .before .before .args .at + length (pidOf c ++ stateOf c ++ nameOf c) ≤ length (c .before .before .before .before .before .args .buffer .now)
-room c = rw (pieces c) at (c .before .before .before .before .before .pre .1)
+room c =
+    let entry = c .before .before .before .before .before in
+    rw (pieces c) at (entry .pre .1)
 
 meta-at-requires : tie.Need-meta-at-requires
 meta-at-requires c κs = search needs
@@ -36,9 +43,10 @@ enum-told c = search needs
 
 returns : tie.Need-returns
 returns c =
-    let a = c .before .before .before .before .args in
+    let entry = c .before .before .before .before in
+    let a = entry .args in
     let m = c .before .before .meta-at in
-    rw (line-none (tableOf (a .t .now)) (a .s) (m .result) (m .ensures) (c .enum-told .given .1)) (wrote-none (a .buffer .now) (a .at) (omega (arith, c .before .before .before .before .pre .1)))
+    rw (line-none (tableOf (a .t .now)) (a .s) (m .result) (m .ensures) (c .enum-told .given .1)) (wrote-none (a .buffer .now) (a .at) (omega (arith, entry .pre .1)))
 
 start-at-requires : tie.Need-start-at-requires
 start-at-requires c κs = search needs
@@ -48,15 +56,18 @@ write-pid-requires c κs = three-first _ (pidOf (c .before)) (stateOf (c .before
 
 write-state-requires : tie.Need-write-state-requires
 write-state-requires c κs =
+    let write-pid = c .before .before .before .write-pid in
     let d = c .before .before .before .before .before in
-    let u = c .before .before .before .write-pid in
+    let u = write-pid in
     three-next (pidOf d) (stateOf d) (nameOf d) (room d) (u .ensures)
 
 write-name-requires : tie.Need-write-name-requires
 write-name-requires c κs =
+    let write-pid = c .before .before .before .before .before .before .before .write-pid in
+    let write-state = c .before .before .before .write-state in
     let d = c .before .before .before .before .before .before .before .before .before in
-    let u = c .before .before .before .before .before .before .before .write-pid in
-    let v = c .before .before .before .write-state in
+    let u = write-pid in
+    let v = write-state in
     fits-next (nameOf d) (room d) (wrote-more (u .ensures) (v .ensures))
 
 same-length : tie.Need-same-length
@@ -64,8 +75,10 @@ same-length c = search needs
 
 returns-2 : tie.Need-returns-2
 returns-2 c =
+    let write-pid = c .before .before .before .before .before .before .before .before .before .before .write-pid in
+    let write-state = c .before .before .before .before .before .before .write-state in
     let d = c .before .before .before .before .before .before .before .before .before .before .before .before in
-    rw (pieces d) (wrote-more (wrote-more (c .before .before .before .before .before .before .before .before .before .before .write-pid .ensures) (c .before .before .before .before .before .before .write-state .ensures)) (c .before .before .write-name .ensures))
+    rw (pieces d) (wrote-more (wrote-more (write-pid .ensures) (write-state .ensures)) (c .before .before .write-name .ensures))
 
 pub write-line-spec : {M : Type 1} → statement M
 write-line-spec =

@@ -14,7 +14,9 @@ use Rattle.listing.proofs.line.write_name.Statement.{statement}
 use Rattle.listing.proofs.line.write_name.Tie as tie
 
 abbrev textOf : tie.After-shown-name → List ℕ
-textOf c = nameShown (bytesOf (c .before .before .args .a) ++ bytesOf (c .before .before .args .b))
+textOf c =
+    let entry = c .before .before in
+    nameShown (bytesOf (entry .args .a) ++ bytesOf (entry .args .b))
 
 shown-name-requires : tie.Need-shown-name-requires
 shown-name-requires c κs = search needs
@@ -24,7 +26,9 @@ slice-aggregate-write c = search needs
 
 write-requires : tie.Need-write-requires
 unfolding nameLabelled bytes
-write-requires c κs = omega (arith, c .before .before .before .before .before .pre)
+write-requires c κs =
+    let entry = c .before .before .before .before .before in
+    omega (arith, entry .pre)
 
 array-share-prefix-bytes : tie.Need-array-share-prefix-bytes
 array-share-prefix-bytes c =
@@ -41,8 +45,9 @@ slice-aggregate-write-2 c =
 write-requires-2 : tie.Need-write-requires-2
 unfolding nameLabelled bytes
 write-requires-2 c κs =
+    let write = c .before .before .before .before .write in
     let d = c .before .before .before .before .before .before .before .before in
-    let w = c .before .before .before .before .write in
+    let w = write in
     rw (d .shown-name .ensures .0) (three-next (bytes " name: ") (textOf d) (bytes "\n") (d .before .before .pre) (w .ensures))
 
 slice-aggregate-write-3 : tie.Need-slice-aggregate-write-3
@@ -51,9 +56,11 @@ slice-aggregate-write-3 c = search needs
 write-requires-3 : tie.Need-write-requires-3
 unfolding nameLabelled bytes
 write-requires-3 c κs =
+    let write = c .before .before .before .before .before .before .before .before .before .write in
+    let write2 = c .before .before .before .before .write2 in
     let d = c .before .before .before .before .before .before .before .before .before .before .before .before .before in
-    let w = c .before .before .before .before .before .before .before .before .before .write in
-    let v = c .before .before .before .before .write2 in
+    let w = write in
+    let v = write2 in
     fits-next (bytes "\n") (d .before .before .pre) (wrote-more (w .ensures) (rw (d .shown-name .ensures .0) at (v .ensures)))
 
 same-length : tie.Need-same-length
@@ -62,9 +69,11 @@ same-length c = search needs
 returns : tie.Need-returns
 unfolding nameLabelled bytes
 returns c =
+    let write = c .before .before .before .before .before .before .before .before .before .before .before .before .write in
+    let write2 = c .before .before .before .before .before .before .before .write2 in
     let d = c .before .before .before .before .before .before .before .before .before .before .before .before .before .before .before .before in
-    let w = c .before .before .before .before .before .before .before .before .before .before .before .before .write in
-    let v = c .before .before .before .before .before .before .before .write2 in
+    let w = write in
+    let v = write2 in
     wrote-more (wrote-more (w .ensures) (rw (d .shown-name .ensures .0) at (v .ensures))) (c .before .before .write3 .ensures)
 
 pub write-name-spec : {M : Type 1} → statement M

@@ -11,20 +11,25 @@ slice-aggregate-write c = search needs
 
 write-requires : tie.Need-write-requires
 unfolding stateLabelled bytes
-write-requires c κs = omega (arith, c .before .before .before .pre)
+write-requires c κs =
+    let entry = c .before .before .before in
+    omega (arith, entry .pre)
 
 write-requires-2 : tie.Need-write-requires-2
 unfolding stateLabelled bytes
 write-requires-2 c κs =
+    let write = c .before .before .before .write in
     let d = c .before .before .before .before .before .before .before in
-    fits-next (stateText (d .args .s)) (d .pre) (c .before .before .before .write .ensures)
+    fits-next (stateText (d .args .s)) (d .pre) (write .ensures)
 
 same-length : tie.Need-same-length
 same-length c = search needs
 
 returns : tie.Need-returns
 unfolding stateLabelled bytes
-returns c = wrote-more (c .before .before .before .before .before .before .write .ensures) (c .before .before .write2 .ensures)
+returns c =
+    let write = c .before .before .before .before .before .before .write in
+    wrote-more (write .ensures) (c .before .before .write2 .ensures)
 
 pub write-state-spec : {M : Type 1} → statement M
 write-state-spec =

@@ -31,7 +31,9 @@ write-place-requires c κs = search needs
 
 loop-holds : tie.Need-loop-holds Inv-loop μ-loop
 unfolding hartCount
-loop-holds c = listed-start placeText (bytes " harts ") ((tableOf (c .before .before .before .before .before .before .before .args .t .now)) .core .harts) _ _ (omega (arith, harts-count (c .before .before .before .before .before .before .before .args .t .now)))
+loop-holds c =
+    let entry = c .before .before .before .before .before .before .before in
+    listed-start placeText (bytes " harts ") ((tableOf (entry .args .t .now)) .core .harts) _ _ (omega (arith, harts-count (entry .args .t .now)))
 
 slice-aggregate-write-place-2 : tie.Need-slice-aggregate-write-place-2 Inv-loop μ-loop
 slice-aggregate-write-place-2 c = search needs
@@ -54,14 +56,22 @@ loop-less c = omega arith
 
 loop-again : tie.Need-loop-again Inv-loop μ-loop
 unfolding hartCount bytes
-loop-again c = listed-more placeText (bytes " harts ") ((tableOf (c .before .before .before .before .before .before .before .before .before .before .before .before .before .before .before .args .t .now)) .core .harts) Nobody (c .before .before .before .before .before .before .before .loop .inv) (omega (arith, harts-count (c .before .before .before .before .before .before .before .before .before .before .before .before .before .before .before .args .t .now))) (rw (c .before .before .before .hart-at2 .ensures .0) at (c .before .before .write-place2 .ensures .0)) (omega arith)
+loop-again c =
+    let entry = c .before .before .before .before .before .before .before .before .before .before .before .before .before .before .before in
+    let loop = c .before .before .before .before .before .before .before .loop in
+    let hart-at2 = c .before .before .before .hart-at2 in
+    listed-more placeText (bytes " harts ") ((tableOf (entry .args .t .now)) .core .harts) Nobody (loop .inv) (omega (arith, harts-count (entry .args .t .now))) (rw (hart-at2 .ensures .0) at (c .before .before .write-place2 .ensures .0)) (omega arith)
 
 same-length : tie.Need-same-length Inv-loop μ-loop
 same-length c = search needs
 
 returns : tie.Need-returns Inv-loop μ-loop
 unfolding hartsText hartCount bytes
-returns c = (listed-all placeText (bytes " harts ") ((tableOf (c .before .before .before .before .before .before .before .before .before .args .t .now)) .core .harts) Nobody (c .before .loop .inv) (omega (arith, harts-count (c .before .before .before .before .before .before .before .before .before .args .t .now))) (rw (c .before .before .before .before .before .hart-at .ensures .0) at (c .before .before .before .before .write-place .ensures .0)), omega (arith, harts-count (c .before .before .before .before .before .before .before .before .before .args .t .now)))
+returns c =
+    let entry = c .before .before .before .before .before .before .before .before .before in
+    let hart-at = c .before .before .before .before .before .hart-at in
+    let write-place = c .before .before .before .before .write-place in
+    (listed-all placeText (bytes " harts ") ((tableOf (entry .args .t .now)) .core .harts) Nobody (c .before .loop .inv) (omega (arith, harts-count (entry .args .t .now))) (rw (hart-at .ensures .0) at (write-place .ensures .0)), omega (arith, harts-count (entry .args .t .now)))
 
 pub write-harts-spec : {M : Type 1} → statement M
 write-harts-spec =

@@ -32,26 +32,35 @@ same-length c = search needs
 
 returns : tie.Need-returns Inv-loop μ-loop
 unfolding slotCount bytes
-returns c = (rw (queue-none ((tableOf (c .before .before .before .before .before .before .before .before .args .t .now)) .core .queue) (omega (arith, c .before .before .before .before .before .before .waiting .ensures))) at (c .before .before .write .ensures), omega arith)
+returns c =
+    let entry = c .before .before .before .before .before .before .before .before in
+    let waiting = c .before .before .before .before .before .before .waiting in
+    (rw (queue-none ((tableOf (entry .args .t .now)) .core .queue) (omega (arith, waiting .ensures))) at (c .before .before .write .ensures), omega arith)
 
 slice-aggregate-write-field : tie.Need-slice-aggregate-write-field Inv-loop μ-loop
 slice-aggregate-write-field c = search needs
 
 queued-at-requires : tie.Need-queued-at-requires Inv-loop μ-loop
-queued-at-requires c κs = (omega arith, c .before .before .before .before .before .pre .0)
+queued-at-requires c κs =
+    let entry = c .before .before .before .before .before in
+    (omega arith, entry .pre .0)
 
 write-field-requires : tie.Need-write-field-requires Inv-loop μ-loop
 unfolding slotCount
 write-field-requires c κs = search needs
 
 loop-holds : tie.Need-loop-holds Inv-loop μ-loop
-loop-holds c = listed-start digits (bytes " queue ") ((tableOf (c .before .before .before .before .before .before .before .before .before .args .t .now)) .core .queue) _ _ (omega arith)
+loop-holds c =
+    let entry = c .before .before .before .before .before .before .before .before .before in
+    listed-start digits (bytes " queue ") ((tableOf (entry .args .t .now)) .core .queue) _ _ (omega arith)
 
 slice-aggregate-write-field-2 : tie.Need-slice-aggregate-write-field-2 Inv-loop μ-loop
 slice-aggregate-write-field-2 c = search needs
 
 queued-at-requires-2 : tie.Need-queued-at-requires-2 Inv-loop μ-loop
-queued-at-requires-2 c κs = (omega arith, c .before .before .before .before .before .before .before .before .before .before .before .before .before .pre .0)
+queued-at-requires-2 c κs =
+    let entry = c .before .before .before .before .before .before .before .before .before .before .before .before .before in
+    (omega arith, entry .pre .0)
 
 write-field-requires-2 : tie.Need-write-field-requires-2 Inv-loop μ-loop
 unfolding slotCount
@@ -65,14 +74,22 @@ loop-less c = omega arith
 
 loop-again : tie.Need-loop-again Inv-loop μ-loop
 unfolding bytes
-loop-again c = listed-more digits (bytes " queue ") ((tableOf (c .before .before .before .before .before .before .before .before .before .before .before .before .before .before .before .before .before .args .t .now)) .core .queue) 0 (c .before .before .before .before .before .before .before .loop .inv) (omega arith) (rw (c .before .before .before .queued-at2 .ensures .0) at (c .before .before .write-field2 .ensures .0)) (omega arith)
+loop-again c =
+    let entry = c .before .before .before .before .before .before .before .before .before .before .before .before .before .before .before .before .before in
+    let loop = c .before .before .before .before .before .before .before .loop in
+    let queued-at2 = c .before .before .before .queued-at2 in
+    listed-more digits (bytes " queue ") ((tableOf (entry .args .t .now)) .core .queue) 0 (loop .inv) (omega arith) (rw (queued-at2 .ensures .0) at (c .before .before .write-field2 .ensures .0)) (omega arith)
 
 same-length-2 : tie.Need-same-length-2 Inv-loop μ-loop
 same-length-2 c = search needs
 
 returns-2 : tie.Need-returns-2 Inv-loop μ-loop
 unfolding bytes slotCount
-returns-2 c = (rw (queue-some ((tableOf (c .before .before .before .before .before .before .before .before .before .before .before .args .t .now)) .core .queue) (omega arith)) at (listed-all digits (bytes " queue ") ((tableOf (c .before .before .before .before .before .before .before .before .before .before .before .args .t .now)) .core .queue) 0 (c .before .loop .inv) (omega arith) (rw (c .before .before .before .before .before .queued-at .ensures .0) at (c .before .before .before .before .write-field .ensures .0))), omega arith)
+returns-2 c =
+    let entry = c .before .before .before .before .before .before .before .before .before .before .before in
+    let queued-at = c .before .before .before .before .before .queued-at in
+    let write-field = c .before .before .before .before .write-field in
+    (rw (queue-some ((tableOf (entry .args .t .now)) .core .queue) (omega arith)) at (listed-all digits (bytes " queue ") ((tableOf (entry .args .t .now)) .core .queue) 0 (c .before .loop .inv) (omega arith) (rw (queued-at .ensures .0) at (write-field .ensures .0))), omega arith)
 
 pub write-queue-spec : {M : Type 1} → statement M
 write-queue-spec =

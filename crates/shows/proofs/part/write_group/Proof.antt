@@ -22,7 +22,9 @@ enum-known-g : tie.Need-enum-known-g
 enum-known-g c = search needs
 
 group-at-requires : tie.Need-group-at-requires
-group-at-requires c κs = rw (c .before .g .given .1) at (c .before .before .before .before .pre .0)
+group-at-requires c κs =
+    let entry = c .before .before .before .before in
+    rw (c .before .g .given .1) at (entry .pre .0)
 
 slice-aggregate-write-field : tie.Need-slice-aggregate-write-field
 slice-aggregate-write-field c = search needs

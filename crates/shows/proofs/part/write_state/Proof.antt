@@ -13,14 +13,20 @@ write-requires : tie.Need-write-requires
 write-requires c κs = search needs
 
 write-requires-2 : tie.Need-write-requires-2
-write-requires-2 c κs = omega (arith, state-short (c .before .before .before .before .before .before .before .args .s))
+write-requires-2 c κs =
+    let entry = c .before .before .before .before .before .before .before in
+    omega (arith, state-short (entry .args .s))
 
 same-length : tie.Need-same-length
 same-length c = search needs
 
 returns : tie.Need-returns
 unfolding bytes
-returns c = (wrote-more (c .before .before .before .before .before .before .write .ensures) (c .before .before .write2 .ensures), omega (arith, c .before .before .before .before .before .before .write .ensures .place, c .before .before .write2 .ensures .place, state-short (c .before .before .before .before .before .before .before .before .before .before .args .s)))
+returns c =
+    let entry = c .before .before .before .before .before .before .before .before .before .before in
+    let write = c .before .before .before .before .before .before .write in
+    let write2 = c .before .before .write2 in
+    (wrote-more (write .ensures) (write2 .ensures), omega (arith, write .ensures .place, write2 .ensures .place, state-short (entry .args .s)))
 
 pub write-state-spec : {M : Type 1} → statement M
 write-state-spec =

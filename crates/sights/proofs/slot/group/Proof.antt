@@ -16,7 +16,9 @@ enum-known-m c = search needs
 
 add-result : tie.Need-add-result
 unfolding slotCount groupCount
-add-result c = omega (arith, subst InGroups (c .before .m .given .1) (c .before .before .before .pre))
+add-result c =
+    let entry = c .before .before .before in
+    omega (arith, subst InGroups (c .before .m .given .1) (entry .pre))
 
 returns : tie.Need-returns
 unfolding groupWord

@@ -32,7 +32,14 @@ flag-requires-4 c κs = search needs
 
 returns : tie.Need-returns
 unfolding slotWords
-returns c = rw (c .before .before .before .before .before .before .state-code .ensures .0, c .before .before .before .before .before .flag .ensures, c .before .before .before .before .flag2 .ensures, c .before .before .before .group .ensures, c .before .before .place .ensures, c .before .flag3 .ensures, c .flag4 .ensures, c .before .before .before .before .before .before .before .before .before .meta-at .ensures, c .before .before .before .before .before .before .before .before .kin-at .ensures .0)
+returns c =
+    let meta-at = c .before .before .before .before .before .before .before .before .before .meta-at in
+    let kin-at = c .before .before .before .before .before .before .before .before .kin-at in
+    let state-code = c .before .before .before .before .before .before .state-code in
+    let flag = c .before .before .before .before .before .flag in
+    let flag2 = c .before .before .before .before .flag2 in
+    let group = c .before .before .before .group in
+    rw (state-code .ensures .0, flag .ensures, flag2 .ensures, group .ensures, c .before .before .place .ensures, c .before .flag3 .ensures, c .flag4 .ensures, meta-at .ensures, kin-at .ensures .0)
 
 pub see-spec : {M : Type 1} → statement M
 see-spec =

@@ -20,7 +20,10 @@ shared-slice-read-if1 : tie.Need-shared-slice-read-if1 Inv-loop μ-loop
 shared-slice-read-if1 c = omega arith
 
 returns : tie.Need-returns Inv-loop μ-loop
-returns c = (omega (arith, c .before .before .before .loop .inv .1, dot-here (c .before .before .before .before .args .row .now) (c .before .before .before .loop .j) (c .before .before .loop-test .taken) (c .if1 .taken)), c .before .before .before .loop .inv .0)
+returns c =
+    let entry = c .before .before .before .before in
+    let loop = c .before .before .before .loop in
+    (omega (arith, loop .inv .1, dot-here (entry .args .row .now) (loop .j) (c .before .before .loop-test .taken) (c .if1 .taken)), loop .inv .0)
 
 add-j : tie.Need-add-j Inv-loop μ-loop
 add-j c = omega arith
@@ -29,7 +32,10 @@ loop-less : tie.Need-loop-less Inv-loop μ-loop
 loop-less c = omega arith
 
 loop-again : tie.Need-loop-again Inv-loop μ-loop
-loop-again c = (omega arith, omega (arith, c .before .before .before .loop .inv .1, dot-not (c .before .before .before .before .args .row .now) (c .before .before .before .loop .j) (c .before .before .loop-test .taken) (c .if1 .left)))
+loop-again c =
+    let entry = c .before .before .before .before in
+    let loop = c .before .before .before .loop in
+    (omega arith, omega (arith, loop .inv .1, dot-not (entry .args .row .now) (loop .j) (c .before .before .loop-test .taken) (c .if1 .left)))
 
 returns-2 : tie.Need-returns-2 Inv-loop μ-loop
 returns-2 c = (omega (arith, c .before .loop .inv .1, dot-end (c .before .before .args .row .now) (c .before .loop .j) (c .loop-test .left)), c .before .loop .inv .0)

@@ -12,17 +12,25 @@ number-of-requires : tie.Need-number-of-requires
 number-of-requires c κs = search needs
 
 sub-i : tie.Need-sub-i
-sub-i c = omega (arith, c .number-of .ensures, row-of (c .before .before .args .r) .number, row-of (c .before .before .args .r) .there)
+sub-i c =
+    let entry = c .before .before in
+    omega (arith, c .number-of .ensures, row-of (entry .args .r) .number, row-of (entry .args .r) .there)
 
 mul-row : tie.Need-mul-row
-mul-row c = omega (arith, c .number-of .ensures, row-of (c .before .before .args .r) .number, row-of (c .before .before .args .r) .there)
+mul-row c =
+    let entry = c .before .before in
+    omega (arith, c .number-of .ensures, row-of (entry .args .r) .number, row-of (entry .args .r) .there)
 
 array-copy-out-row : tie.Need-array-copy-out-row
-array-copy-out-row c = omega (arith, c .number-of .ensures, row-of (c .before .before .args .r) .number, row-of (c .before .before .args .r) .there)
+array-copy-out-row c =
+    let entry = c .before .before in
+    omega (arith, c .number-of .ensures, row-of (entry .args .r) .number, row-of (entry .args .r) .there)
 
 slice-aggregate-words-len : tie.Need-slice-aggregate-words-len
 unfolding rows bytes
-slice-aggregate-words-len c = row-long (c .before .before .before .before .args .r) (c .before .before .number-of .ensures)
+slice-aggregate-words-len c =
+    let entry = c .before .before .before .before in
+    row-long (entry .args .r) (c .before .before .number-of .ensures)
 
 words-len-requires : tie.Need-words-len-requires
 words-len-requires c κs = search needs
@@ -35,14 +43,21 @@ slice-aggregate-write c = sym (length-take-le _ _ (c .before .before .words-len 
 
 write-requires : tie.Need-write-requires
 unfolding rows bytes
-write-requires c κs = room-left (c .before .before .before .before .before .before .before .args .at) (words-fit (c .before .before .before .before .before .before .before .args .r) (c .before .before .before .before .before .number-of .ensures) (c .before .before .words-len .ensures .0)) (c .before .before .before .before .before .before .before .pre)
+write-requires c κs =
+    let entry = c .before .before .before .before .before .before .before in
+    let number-of = c .before .before .before .before .before .number-of in
+    room-left (entry .args .at) (words-fit (entry .args .r) (number-of .ensures) (c .before .before .words-len .ensures .0)) (entry .pre)
 
 same-length : tie.Need-same-length
 same-length c = search needs
 
 returns : tie.Need-returns
 unfolding rows bytes
-returns c = words-wrote (c .before .before .before .before .before .before .before .before .before .before .args .r) (c .before .before .before .before .before .before .before .before .number-of .ensures) (c .before .before .before .before .before .words-len .ensures .0) (c .before .before .write .ensures)
+returns c =
+    let entry = c .before .before .before .before .before .before .before .before .before .before in
+    let number-of = c .before .before .before .before .before .before .before .before .number-of in
+    let words-len = c .before .before .before .before .before .words-len in
+    words-wrote (entry .args .r) (number-of .ensures) (words-len .ensures .0) (c .before .before .write .ensures)
 
 pub write-refusal-spec : {M : Type 1} → statement M
 write-refusal-spec =

@@ -13,7 +13,9 @@ unfolding groupCount
 get-requires-2 c κs = omega arith
 
 returns : tie.Need-returns
-returns c = rw (c .get2 .ensures, c .before .get .ensures) (group-law (c .before .before .args .t .now) (c .before .before .args .g) (c .before .before .pre))
+returns c =
+    let entry = c .before .before in
+    rw (c .get2 .ensures, c .before .get .ensures) (group-law (entry .args .t .now) (entry .args .g) (entry .pre))
 
 pub group-at-spec : {M : Type 1} → statement M
 group-at-spec = tie.close (tie.spec get-requires get-requires-2 returns)

@@ -13,8 +13,11 @@ unfolding groupCount
 put-requires-2 c κs = omega arith
 
 returns : tie.Need-returns
-returns c = rw (c .put2 .ensures .0, c .before .before .put .ensures .0)
-    (set-group-law (c .before .before .before .before .args .t .now) (c .before .before .put .ensures .1) (c .before .before .before .before .args .g) (c .before .before .before .before .pre) (c .before .before .before .before .args .x))
+returns c =
+    let entry = c .before .before .before .before in
+    let put = c .before .before .put in
+    rw (c .put2 .ensures .0, put .ensures .0)
+    (set-group-law (entry .args .t .now) (put .ensures .1) (entry .args .g) (entry .pre) (entry .args .x))
 
 pub set-group-spec : {M : Type 1} → statement M
 set-group-spec = tie.close (tie.spec put-requires put-requires-2 returns)

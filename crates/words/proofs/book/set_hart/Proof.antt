@@ -16,8 +16,10 @@ put-cell-requires : tie.Need-put-cell-requires
 put-cell-requires c κs = search needs
 
 returns : tie.Need-returns
-returns c = rw (c .put-cell .ensures .0, c .before .parent-word .ensures)
-    (set-hart-law (c .before .before .before .args .t .now) (c .put-cell .ensures .1) (c .before .before .before .args .h) (c .before .before .before .args .p) (c .before .before .before .pre .0) (c .before .before .before .pre .1))
+returns c =
+    let entry = c .before .before .before in
+    rw (c .put-cell .ensures .0, c .before .parent-word .ensures)
+    (set-hart-law (entry .args .t .now) (c .put-cell .ensures .1) (entry .args .h) (entry .args .p) (entry .pre .0) (entry .pre .1))
 
 pub set-hart-spec : {M : Type 1} → statement M
 set-hart-spec = tie.close (tie.spec add-put-cell parent-word-requires put-cell-requires returns)

@@ -10,8 +10,10 @@ put-cell-requires : tie.Need-put-cell-requires
 put-cell-requires c κs = search needs
 
 returns : tie.Need-returns
-returns c = rw (c .put-cell .ensures .0, c .before .parent-word .ensures)
-    (set-init-law (c .before .before .before .args .t .now) (c .put-cell .ensures .1) (c .before .before .before .args .p) (c .before .before .before .pre))
+returns c =
+    let entry = c .before .before .before in
+    rw (c .put-cell .ensures .0, c .before .parent-word .ensures)
+    (set-init-law (entry .args .t .now) (c .put-cell .ensures .1) (entry .args .p) (entry .pre))
 
 pub set-init-spec : {M : Type 1} → statement M
 set-init-spec = tie.close (tie.spec parent-word-requires put-cell-requires returns)

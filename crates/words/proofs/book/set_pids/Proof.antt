@@ -7,7 +7,9 @@ put-cell-requires : tie.Need-put-cell-requires
 put-cell-requires c κs = search needs
 
 returns : tie.Need-returns
-returns c = rw (c .put-cell .ensures .0) (set-pids-law (c .before .before .args .t .now) (c .put-cell .ensures .1) (c .before .before .args .n))
+returns c =
+    let entry = c .before .before in
+    rw (c .put-cell .ensures .0) (set-pids-law (entry .args .t .now) (c .put-cell .ensures .1) (entry .args .n))
 
 pub set-pids-spec : {M : Type 1} → statement M
 set-pids-spec = tie.close (tie.spec put-cell-requires returns)

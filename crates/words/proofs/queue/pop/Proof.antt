@@ -32,8 +32,12 @@ rem-result c = search needs
 
 returns : tie.Need-returns
 unfolding slotCount
-returns c = rw (c .put-cell .ensures .0, c .before .wrapping-add-u32 .ensures, c .before .before .before .get .ensures, c .before .before .before .before .before .get-cell .ensures)
-    (pop-law (c .before .before .before .before .before .before .before .args .t .now) (c .put-cell .ensures .1) (c .before .before .before .before .before .before .before .pre .0) (c .before .before .before .before .before .before .before .pre .1))
+returns c =
+    let entry = c .before .before .before .before .before .before .before in
+    let get-cell = c .before .before .before .before .before .get-cell in
+    let get = c .before .before .before .get in
+    rw (c .put-cell .ensures .0, c .before .wrapping-add-u32 .ensures, get .ensures, get-cell .ensures)
+    (pop-law (entry .args .t .now) (c .put-cell .ensures .1) (entry .pre .0) (entry .pre .1))
 
 pub pop-spec : {M : Type 1} → statement M
 pop-spec =

@@ -29,8 +29,12 @@ put-cell-requires c κs = search needs
 
 returns : tie.Need-returns
 unfolding slotCount
-returns c = rw (c .put-cell .ensures .0, c .before .wrapping-add-u32 .ensures, c .before .before .before .put .ensures .0, c .before .before .before .before .before .get-cell .ensures)
-    (push-law (c .before .before .before .before .before .before .before .args .t .now) (c .before .before .before .put .ensures .1) (c .before .before .before .before .before .before .before .args .s) (c .before .before .before .before .before .before .before .pre .0) (c .before .before .before .before .before .before .before .pre .1))
+returns c =
+    let entry = c .before .before .before .before .before .before .before in
+    let get-cell = c .before .before .before .before .before .get-cell in
+    let put = c .before .before .before .put in
+    rw (c .put-cell .ensures .0, c .before .wrapping-add-u32 .ensures, put .ensures .0, get-cell .ensures)
+    (push-law (entry .args .t .now) (put .ensures .1) (entry .args .s) (entry .pre .0) (entry .pre .1))
 
 pub push-spec : {M : Type 1} → statement M
 push-spec =

@@ -21,7 +21,9 @@ rem-result c = search needs
 
 returns : tie.Need-returns
 unfolding slotCount
-returns c = (rw (c .get .ensures, c .before .get-cell .ensures) (queued-law (c .before .before .args .t .now) (c .before .before .args .i) (c .before .before .pre .1) (c .before .before .pre .0)), omega arith)
+returns c =
+    let entry = c .before .before in
+    (rw (c .get .ensures, c .before .get-cell .ensures) (queued-law (entry .args .t .now) (entry .args .i) (entry .pre .1) (entry .pre .0)), omega arith)
 
 pub queued-at-spec : {M : Type 1} → statement M
 queued-at-spec = tie.close (tie.spec get-cell-requires add-get get-requires rem-result returns)

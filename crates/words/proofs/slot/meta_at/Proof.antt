@@ -33,8 +33,16 @@ flag-of-requires-2 c κs = search needs
 
 returns : tie.Need-returns
 unfolding rowOf tab tabFrom
-returns c = rw (c .flag-of2 .ensures, c .before .get6 .ensures, c .before .before .get5 .ensures, c .before .before .before .get4 .ensures, c .before .before .before .before .flag-of .ensures, c .before .before .before .before .before .get3 .ensures, c .before .before .before .before .before .before .get2 .ensures, c .before .before .before .before .before .before .before .state-of .ensures, c .before .before .before .before .before .before .before .before .get .ensures)
-    (meta-law (c .before .before .before .before .before .before .before .before .before .args .t .now) (c .before .before .before .before .before .before .before .before .before .args .s) (c .before .before .before .before .before .before .before .before .before .pre))
+returns c =
+    let entry = c .before .before .before .before .before .before .before .before .before in
+    let get = c .before .before .before .before .before .before .before .before .get in
+    let state-of = c .before .before .before .before .before .before .before .state-of in
+    let get2 = c .before .before .before .before .before .before .get2 in
+    let get3 = c .before .before .before .before .before .get3 in
+    let flag-of = c .before .before .before .before .flag-of in
+    let get4 = c .before .before .before .get4 in
+    rw (c .flag-of2 .ensures, c .before .get6 .ensures, c .before .before .get5 .ensures, get4 .ensures, flag-of .ensures, get3 .ensures, get2 .ensures, state-of .ensures, get .ensures)
+    (meta-law (entry .args .t .now) (entry .args .s) (entry .pre))
 
 pub meta-at-spec : {M : Type 1} → statement M
 meta-at-spec =

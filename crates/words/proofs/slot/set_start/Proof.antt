@@ -28,8 +28,16 @@ put-requires-8 : tie.Need-put-requires-8
 put-requires-8 c κs = search needs
 
 returns : tie.Need-returns
-returns c = rw (c .put8 .ensures .0, c .before .before .put7 .ensures .0, c .before .before .before .before .put6 .ensures .0, c .before .before .before .before .before .before .put5 .ensures .0, c .before .before .before .before .before .before .before .before .put4 .ensures .0, c .before .before .before .before .before .before .before .before .before .before .put3 .ensures .0, c .before .before .before .before .before .before .before .before .before .before .before .before .put2 .ensures .0, c .before .before .before .before .before .before .before .before .before .before .before .before .before .before .put .ensures .0)
-    (set-start-law (c .before .before .before .before .before .before .before .before .before .before .before .before .before .before .before .before .args .t .now) (c .before .before .before .before .before .before .before .before .before .before .before .before .before .before .before .before .args .s) (c .before .before .before .before .before .before .before .before .before .before .before .before .before .before .before .before .pre) (c .before .before .before .before .before .before .before .before .before .before .before .before .before .before .put .ensures .1) (c .before .before .before .before .before .before .before .before .before .before .before .before .before .before .before .before .args .b))
+returns c =
+    let entry = c .before .before .before .before .before .before .before .before .before .before .before .before .before .before .before .before in
+    let put = c .before .before .before .before .before .before .before .before .before .before .before .before .before .before .put in
+    let put2 = c .before .before .before .before .before .before .before .before .before .before .before .before .put2 in
+    let put3 = c .before .before .before .before .before .before .before .before .before .before .put3 in
+    let put4 = c .before .before .before .before .before .before .before .before .put4 in
+    let put5 = c .before .before .before .before .before .before .put5 in
+    let put6 = c .before .before .before .before .put6 in
+    rw (c .put8 .ensures .0, c .before .before .put7 .ensures .0, put6 .ensures .0, put5 .ensures .0, put4 .ensures .0, put3 .ensures .0, put2 .ensures .0, put .ensures .0)
+    (set-start-law (entry .args .t .now) (entry .args .s) (entry .pre) (put .ensures .1) (entry .args .b))
 
 pub set-start-spec : {M : Type 1} → statement M
 set-start-spec =

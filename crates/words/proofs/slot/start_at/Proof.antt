@@ -30,8 +30,15 @@ get-requires-8 c κs = search needs
 
 returns : tie.Need-returns
 unfolding rowOf tab tabFrom
-returns c = rw (c .get8 .ensures, c .before .get7 .ensures, c .before .before .get6 .ensures, c .before .before .before .get5 .ensures, c .before .before .before .before .get4 .ensures, c .before .before .before .before .before .get3 .ensures, c .before .before .before .before .before .before .get2 .ensures, c .before .before .before .before .before .before .before .get .ensures)
-    (start-law (c .before .before .before .before .before .before .before .before .args .t .now) (c .before .before .before .before .before .before .before .before .args .s) (c .before .before .before .before .before .before .before .before .pre))
+returns c =
+    let entry = c .before .before .before .before .before .before .before .before in
+    let get = c .before .before .before .before .before .before .before .get in
+    let get2 = c .before .before .before .before .before .before .get2 in
+    let get3 = c .before .before .before .before .before .get3 in
+    let get4 = c .before .before .before .before .get4 in
+    let get5 = c .before .before .before .get5 in
+    rw (c .get8 .ensures, c .before .get7 .ensures, c .before .before .get6 .ensures, get5 .ensures, get4 .ensures, get3 .ensures, get2 .ensures, get .ensures)
+    (start-law (entry .args .t .now) (entry .args .s) (entry .pre))
 
 pub start-at-spec : {M : Type 1} → statement M
 start-at-spec =
