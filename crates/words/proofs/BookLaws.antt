@@ -12,7 +12,7 @@ use Rattle.rules.specs.Model.{hartAt, groupAt, noGroup}
 use Rattle.rules.specs.Moves.{setGroup}
 use Rattle.promises.specs.Laws.Ring.{queueOf}
 use Rattle.promises.specs.Order.Chains.{onCore}
-use Rattle.words.specs.Layout.{sizeColumn, countColumn, placeColumn, headCell, tailCell, initCell, pidsCell, hartCell, columnAt, cellAt, wordCount, column, cell}
+use Rattle.words.specs.Layout.{sizeColumn, countColumn, placeColumn, headCell, tailCell, initCell, pidsCell, cells, hartCell, columnAt, cellAt, wordCount, column, cell}
 use Rattle.words.specs.Reading.{slotsOf, placesOf, hartsOf, groupOf, groupsOf, coreOf, booksOf, tableOf, parentOf, parentWord, InTable, turns}
 use Rattle.words.specs.Effects.{onBooks, withHart, withInit, withPids}
 use Rattle.words.proofs.Places.{column-range, cell-range, column-here, column-there, cell-kept, cell-here, cell-there, column-kept}
@@ -49,7 +49,7 @@ module _ (w : List ℕ) (k v : ℕ) where
   cell-places = places-kept w _ (λ p b. column-kept w k v placeColumn p (omega arith) b)
 
 module _ (w : List ℕ) (lw : length w ≡ wordCount) where
-  in-words : (k : ℕ) → k < 4 + hartCount → cellAt k < length w
+  in-words : (k : ℕ) → k < cells + hartCount → cellAt k < length w
   in-words k b = omega (arith, lw, cell-range k b)
 
   pub set-hart-law : (h : ℕ) (p : Parent) → h < hartCount → InTable p → tableOf (set w (cellAt (hartCell h)) (parentWord p)) ≡ onCore (withHart h p) (tableOf w)
@@ -66,11 +66,11 @@ module _ (w : List ℕ) (lw : length w ≡ wordCount) where
       v : ℕ
       v = parentWord p
 
-      apart : (j : ℕ) → j < 4 → cell (set w (cellAt (hartCell h)) v) j ≡ cell w j
+      apart : (j : ℕ) → j < cells → cell (set w (cellAt (hartCell h)) v) j ≡ cell w j
       apart j l = cell-there w (hartCell h) v j (λ f. omega arith)
 
   -- a store in the cell of init or of the pid counter leaves the scheduler's part alone
-  books-cell : (k v : ℕ) → 2 ≤ k → k < 4 → coreOf (set w (cellAt k) v) ≡ coreOf w
+  books-cell : (k v : ℕ) → initCell ≤ k → k < cells → coreOf (set w (cellAt k) v) ≡ coreOf w
   unfolding coreOf
   books-cell k v l m =
       core-is (cell-slots w k v)

@@ -11,7 +11,7 @@ use lib.Seq.{getD-set-same, getD-set-other}
 use lib.Dec.{leb}
 use borrow.Author.Tests.{leb-true, leb-false}
 use Rattle.rules.specs.Sizes.{slotCount, hartCount}
-use Rattle.words.specs.Layout.{columns, columnAt, cellAt, wordCount, column, cell}
+use Rattle.words.specs.Layout.{columns, cells, columnAt, cellAt, wordCount, column, cell}
 
 -- a lower column lies wholly before a higher one
 before : (n f g s i : ℕ) → s < n → f < g → f * n + s < g * n + i
@@ -41,7 +41,7 @@ module _ (f s : ℕ) (fb : f < columns) (sb : s < slotCount) where
   unfolding cellAt
   column-cell k e = omega (arith, below-cells)
 
-pub cell-range : (k : ℕ) → k < 4 + hartCount → cellAt k < wordCount
+pub cell-range : (k : ℕ) → k < cells + hartCount → cellAt k < wordCount
 unfolding cellAt wordCount
 cell-range k b = omega arith
 

@@ -66,22 +66,22 @@ slotColumns = 18
 
 -- of a group
 abbrev pub sizeColumn : ℕ
-sizeColumn = 18
+sizeColumn = slotColumns
 
 abbrev pub countColumn : ℕ
-countColumn = 19
+countColumn = slotColumns + 1
 
 -- of a place of the ring
 abbrev pub placeColumn : ℕ
-placeColumn = 20
+placeColumn = slotColumns + 2
 
 abbrev pub columns : ℕ
-columns = 21
+columns = slotColumns + 3
 
 unfoldable pub columnAt : ℕ → ℕ → ℕ
 columnAt f s = f * slotCount + s
 
--- the cells: head, tail, init, pids, and a cell for each hart
+-- the cells: head, tail, init, pids; then a cell for each hart
 abbrev pub headCell : ℕ
 headCell = 0
 
@@ -94,14 +94,17 @@ initCell = 2
 abbrev pub pidsCell : ℕ
 pidsCell = 3
 
+abbrev pub cells : ℕ
+cells = 4
+
 abbrev pub hartCell : ℕ → ℕ
-hartCell h = 4 + h
+hartCell h = cells + h
 
 unfoldable pub cellAt : ℕ → ℕ
 cellAt k = columns * slotCount + k
 
 unfoldable pub wordCount : ℕ
-wordCount = columns * slotCount + 4 + hartCount
+wordCount = columns * slotCount + cells + hartCount
 
 -- ---- reading
 unfoldable pub column : List ℕ → ℕ → ℕ → ℕ

@@ -12,19 +12,20 @@ use crate::get;
 use crate::get_cell;
 use crate::put;
 use crate::put_cell;
+use crate::slot;
 use crate::word;
 use rules::Group;
 use rules::Parent;
 
-const SIZE_COLUMN: usize = 18;
+const SIZE_COLUMN: usize = slot::COLUMNS;
 
-const COUNT_COLUMN: usize = 19;
+const COUNT_COLUMN: usize = slot::COLUMNS + 1;
 
 const INIT_CELL: usize = 2;
 
 const PIDS_CELL: usize = 3;
 
-const FIRST_HART: usize = 4;
+const FIRST_HART: usize = Table::CELLS;
 
 pub fn group_at(t: &[u64; Table::WORDS], g: usize) -> Group
     requires { ⌜ g < groupCount ⌝ }
@@ -35,26 +36,26 @@ pub fn group_at(t: &[u64; Table::WORDS], g: usize) -> Group
     Group { size, count }
 }
 
-pub fn set_group(t: &mut [u64; Table::WORDS], g: usize, x: Group)
+pub fn set_group(t: &mut [u64; Table::WORDS], g: usize, group: Group)
     requires { ⌜ g < groupCount ⌝ }
-    ensures { λ _. ⌜ tableOf (now (t .exit)) ≡ onBooks (setGroup g x) (tableOf (now (t .entry))) ⌝ }
+    ensures { λ _. ⌜ tableOf (now (t .exit)) ≡ onBooks (setGroup g group) (tableOf (now (t .entry))) ⌝ }
 {
-    put(t, SIZE_COLUMN, g, x.size);
-    put(t, COUNT_COLUMN, g, x.count);
+    put(t, SIZE_COLUMN, g, group.size);
+    put(t, COUNT_COLUMN, g, group.count);
 }
 
-pub fn hart_at(t: &[u64; Table::WORDS], h: usize) -> Parent
-    requires { ⌜ h < hartCount ⌝ }
-    ensures { λ r. ⌜ (r ≡ hartAt (tableOf (now (t .entry)) .core) h) × InTable r ⌝ }
+pub fn hart_at(t: &[u64; Table::WORDS], hart: usize) -> Parent
+    requires { ⌜ hart < hartCount ⌝ }
+    ensures { λ r. ⌜ (r ≡ hartAt (tableOf (now (t .entry)) .core) hart) × InTable r ⌝ }
 {
-    word::parent_of(get_cell(t, FIRST_HART + h))
+    word::parent_of(get_cell(t, FIRST_HART + hart))
 }
 
-pub fn set_hart(t: &mut [u64; Table::WORDS], h: usize, p: Parent)
-    requires { ⌜ (h < hartCount) × InTable p ⌝ }
-    ensures { λ _. ⌜ tableOf (now (t .exit)) ≡ onCore (withHart h p) (tableOf (now (t .entry))) ⌝ }
+pub fn set_hart(t: &mut [u64; Table::WORDS], hart: usize, p: Parent)
+    requires { ⌜ (hart < hartCount) × InTable p ⌝ }
+    ensures { λ _. ⌜ tableOf (now (t .exit)) ≡ onCore (withHart hart p) (tableOf (now (t .entry))) ⌝ }
 {
-    put_cell(t, FIRST_HART + h, word::parent_word(p));
+    put_cell(t, FIRST_HART + hart, word::parent_word(p));
 }
 
 pub fn init(t: &[u64; Table::WORDS]) -> Parent

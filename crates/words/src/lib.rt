@@ -6,7 +6,7 @@ ghost use lib.ListN.{length, set};
 ghost use Rattle.rules.specs.Sizes.{slotCount, hartCount};
 ghost use Rattle.rules.specs.Model.{fresh};
 ghost use Rattle.promises.specs.Order.Sound.{Sound};
-ghost use Rattle.words.specs.Layout.{columns, columnAt, cellAt, wordCount, column, cell};
+ghost use Rattle.words.specs.Layout.{columns, cells, columnAt, cellAt, wordCount, column, cell};
 ghost use Rattle.words.specs.Reading.{tableOf};
 
 pub mod word; // what one word means
@@ -23,9 +23,11 @@ impl Table {
 
     pub const HARTS: usize = 8;
 
-    const COLUMNS: usize = 21;
-    // the columns, 4 cells, and a cell for each hart
-    pub const WORDS: usize = Table::COLUMNS * Table::SLOTS + 4 + Table::HARTS;
+    const COLUMNS: usize = slot::COLUMNS + 3;
+    // head, tail, init, pids
+    const CELLS: usize = 4;
+    // the columns, the cells, and a cell for each hart
+    pub const WORDS: usize = Table::COLUMNS * Table::SLOTS + Table::CELLS + Table::HARTS;
 
     pub fn new() -> Self
         ensures { λ r. ⌜ (tableOf (r .words) ≡ fresh) × Sound (tableOf (r .words)) ⌝ }
@@ -54,7 +56,7 @@ fn get(t: &[u64; Table::WORDS], f: usize, s: usize) -> u64
 }
 
 fn get_cell(t: &[u64; Table::WORDS], k: usize) -> u64
-    requires { ⌜ k < 4 + hartCount ⌝ }
+    requires { ⌜ k < cells + hartCount ⌝ }
     ensures { λ r. ⌜ r ≡ cell (now (t .entry)) k ⌝ }
 {
     t[Table::COLUMNS * Table::SLOTS + k]
@@ -76,7 +78,7 @@ fn put(t: &mut [u64; Table::WORDS], f: usize, s: usize, n: u64)
 }
 
 fn put_cell(t: &mut [u64; Table::WORDS], k: usize, n: u64)
-    requires { ⌜ k < 4 + hartCount ⌝ }
+    requires { ⌜ k < cells + hartCount ⌝ }
     ensures { λ _. ⌜ (now (t .exit) ≡ set (now (t .entry)) (cellAt k) n) × (length (now (t .entry)) ≡ wordCount) ⌝ }
 {
     store(t, Table::COLUMNS * Table::SLOTS + k, n);

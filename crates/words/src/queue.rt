@@ -11,12 +11,13 @@ use crate::get;
 use crate::get_cell;
 use crate::put;
 use crate::put_cell;
+use crate::slot;
 
 const HEAD_CELL: usize = 0;
 
 const TAIL_CELL: usize = 1;
 
-const PLACE_COLUMN: usize = 20;
+const PLACE_COLUMN: usize = slot::COLUMNS + 2;
 // One past the top of a 32-bit count.
 const TURNS: u64 = 4294967296;
 

@@ -52,6 +52,8 @@ const NAME0_COLUMN: usize = 16;
 
 const NAME1_COLUMN: usize = 17;
 
+pub const COLUMNS: usize = 18;
+
 // The Start of a slot as the words have it: the trapframe as its distance below TRAPFRAME, the name in two words.
 pub struct StartWords {
     pub below: u64,

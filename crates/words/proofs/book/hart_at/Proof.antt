@@ -18,7 +18,7 @@ parent-of-requires c κs = search needs
 returns : tie.Need-returns
 returns c =
     let entry = c .before .before in
-    (rw (c .parent-of .ensures .0, c .before .get-cell .ensures) (hart-law (entry .args .t .now) (entry .args .h) (entry .pre)), c .parent-of .ensures .1)
+    (rw (c .parent-of .ensures .0, c .before .get-cell .ensures) (hart-law (entry .args .t .now) (entry .args .hart) (entry .pre)), c .parent-of .ensures .1)
 
 pub hart-at-spec : {M : Type 1} → statement M
 hart-at-spec = tie.close (tie.spec add-get-cell get-cell-requires parent-of-requires returns)

@@ -17,7 +17,7 @@ returns c =
     let entry = c .before .before .before .before in
     let put = c .before .before .put in
     rw (c .put2 .ensures .0, put .ensures .0)
-    (set-group-law (entry .args .t .now) (put .ensures .1) (entry .args .g) (entry .pre) (entry .args .x))
+    (set-group-law (entry .args .t .now) (put .ensures .1) (entry .args .g) (entry .pre) (entry .args .group))
 
 pub set-group-spec : {M : Type 1} → statement M
 set-group-spec = tie.close (tie.spec put-requires put-requires-2 returns)

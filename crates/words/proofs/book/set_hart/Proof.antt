@@ -19,7 +19,7 @@ returns : tie.Need-returns
 returns c =
     let entry = c .before .before .before in
     rw (c .put-cell .ensures .0, c .before .parent-word .ensures)
-    (set-hart-law (entry .args .t .now) (c .put-cell .ensures .1) (entry .args .h) (entry .args .p) (entry .pre .0) (entry .pre .1))
+    (set-hart-law (entry .args .t .now) (c .put-cell .ensures .1) (entry .args .hart) (entry .args .p) (entry .pre .0) (entry .pre .1))
 
 pub set-hart-spec : {M : Type 1} → statement M
 set-hart-spec = tie.close (tie.spec add-put-cell parent-word-requires put-cell-requires returns)
