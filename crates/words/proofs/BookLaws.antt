@@ -1,7 +1,8 @@
--- Groups, harts, init, the pid counter and the ring: read and set.
+-- Groups, harts, init and the pid counter: read and set.
 use Prim.Native.Nat.{ℕ, _+_, _≤_, _<_}
 use native.Mathlib.Omega.{arith}
 use mathlib.Core.Path.{_≡_, refl, sym, ap, _∙_}
+use mathlib.Core.Logic.{_≢_}
 use mathlib.Core.List.{List}
 use lib.ListN.{length, set, length-set}
 use Rattle.rules.specs.declared.Parent.{Parent}
@@ -10,15 +11,15 @@ use Rattle.rules.specs.declared.Group.{Group}
 use Rattle.rules.specs.Sizes.{slotCount, groupCount, hartCount}
 use Rattle.rules.specs.Model.{hartAt, groupAt, noGroup}
 use Rattle.rules.specs.Moves.{setGroup}
-use Rattle.promises.specs.Laws.Ring.{queueOf}
 use Rattle.promises.specs.Order.Chains.{onCore}
-use Rattle.words.specs.Layout.{sizeColumn, countColumn, placeColumn, headCell, tailCell, initCell, pidsCell, cells, hartCell, columnAt, cellAt, wordCount, column, cell}
-use Rattle.words.specs.Reading.{slotsOf, placesOf, hartsOf, groupOf, groupsOf, coreOf, booksOf, tableOf, parentOf, parentWord, InTable, turns}
+use Rattle.words.specs.declared.queue.RingAt.{RingAt}
+use Rattle.words.specs.Layout.{columns, sizeColumn, countColumn, placeColumn, headCell, tailCell, initCell, pidsCell, cells, hartCell, columnAt, cellAt, wordCount, column, cell}
+use Rattle.words.specs.Reading.{queueAt, runQueue, slotsOf, hartsOf, groupOf, groupsOf, coreOf, booksOf, tableOf, parentOf, parentWord, InTable}
 use Rattle.words.specs.Effects.{onBooks, withHart, withInit, withPids}
 use Rattle.words.proofs.Places.{column-range, cell-range, column-here, column-there, cell-kept, cell-here, cell-there, column-kept}
 use Rattle.words.proofs.Tabs.{getD-tab, tab-set}
 use Rattle.words.proofs.Fresh.{parent-back}
-use Rattle.words.proofs.Rows.{group-is, books-is, core-is, table-is, slots-kept, groups-kept, places-kept, ring-kept, harts-kept}
+use Rattle.words.proofs.Rows.{group-is, books-is, core-is, table-is, slots-kept, groups-kept, queue-kept, harts-kept}
 
 -- ---- reading
 pub group-law : (w : List ℕ) (g : ℕ) → g < groupCount → groupOf w g ≡ groupAt (tableOf w .books) g
@@ -45,8 +46,9 @@ module _ (w : List ℕ) (k v : ℕ) where
   cell-groups : groupsOf (set w (cellAt k) v) ≡ groupsOf w
   cell-groups = groups-kept w _ (λ g b. column-kept w k v sizeColumn g (omega arith) b) (λ g b. column-kept w k v countColumn g (omega arith) b)
 
-  cell-places : placesOf (set w (cellAt k) v) ≡ placesOf w
-  cell-places = places-kept w _ (λ p b. column-kept w k v placeColumn p (omega arith) b)
+  -- .. and every queue whose counts stand in other cells
+  pub cell-queue : (r : RingAt) → r .places < columns → r .head ≢ k → r .tail ≢ k → queueAt r (set w (cellAt k) v) ≡ queueAt r w
+  cell-queue r b m n = queue-kept w _ r (λ p c. column-kept w k v (r .places) p b c) (cell-there w k v (r .head) m) (cell-there w k v (r .tail) n)
 
 module _ (w : List ℕ) (lw : length w ≡ wordCount) where
   in-words : (k : ℕ) → k < cells + hartCount → cellAt k < length w
@@ -57,7 +59,7 @@ module _ (w : List ℕ) (lw : length w ≡ wordCount) where
   set-hart-law h p b t =
       table-is
       (core-is (cell-slots w (hartCell h) v)
-      (ap (queueOf slotCount turns) (ring-kept w _ (λ q c. column-kept w (hartCell h) v placeColumn q (omega arith) c) (apart headCell (omega arith)) (apart tailCell (omega arith))))
+      (cell-queue w (hartCell h) v runQueue (omega arith) (λ e. omega arith) (λ e. omega arith))
       (tab-set hartCount (λ i. parentOf (cell w (hartCell i))) (λ i. parentOf (cell (set w (cellAt (hartCell h)) v) (hartCell i))) h p Nobody b
       (ap parentOf (cell-here w (hartCell h) v (in-words (hartCell h) (omega arith))) ∙ parent-back p t)
       (λ i _ n. ap parentOf (cell-there w (hartCell h) v (hartCell i) (λ f. n (omega arith))))))
@@ -74,7 +76,7 @@ module _ (w : List ℕ) (lw : length w ≡ wordCount) where
   unfolding coreOf
   books-cell k v l m =
       core-is (cell-slots w k v)
-      (ap (queueOf slotCount turns) (ring-kept w _ (λ p b. column-kept w k v placeColumn p (omega arith) b) (cell-there w k v headCell (λ e. omega arith)) (cell-there w k v tailCell (λ e. omega arith))))
+      (cell-queue w k v runQueue (omega arith) (λ e. omega arith) (λ e. omega arith))
       (harts-kept w _ (λ h b. cell-there w k v (hartCell h) (λ e. omega arith)))
 
   pub set-init-law : (p : Parent) → InTable p → tableOf (set w (cellAt initCell) (parentWord p)) ≡ onBooks (withInit p) (tableOf w)
@@ -122,7 +124,7 @@ module _ (w : List ℕ) (lw : length w ≡ wordCount) (g : ℕ) (gb : g < groupC
   set-group-law =
       table-is
       (core-is (slots-kept w both (λ f s a b. both-other f s b (λ e. omega (arith, e .0)) (λ e. omega (arith, e .0))))
-      (ap (queueOf slotCount turns) (ring-kept w both (λ p b. both-other placeColumn p b (λ e. omega (arith, e .0)) (λ e. omega (arith, e .0))) (both-cell headCell) (both-cell tailCell)))
+      (queue-kept w both runQueue (λ p b. both-other placeColumn p b (λ e. omega (arith, e .0)) (λ e. omega (arith, e .0))) (both-cell headCell) (both-cell tailCell))
       (harts-kept w both (λ h b. both-cell (hartCell h))))
       (books-is
       (tab-set groupCount (groupOf w) (groupOf both) g x noGroup gb (group-is both-size both-count)

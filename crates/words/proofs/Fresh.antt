@@ -16,8 +16,9 @@ use Rattle.rules.specs.Sizes.{slotCount, groupCount, hartCount, trapframe, tram
 use Rattle.rules.specs.Model.{free, noGroup, fresh}
 use Rattle.promises.specs.Laws.Lists.{same-all}
 use Rattle.promises.specs.Laws.Ring.{reads, lengthOf, queueOf}
-use Rattle.words.specs.Layout.{slotColumns, sizeColumn, countColumn, headCell, tailCell, initCell, pidsCell, hartCell, columnAt, cellAt, column, cell}
-use Rattle.words.specs.Reading.{tabFrom, tab, turns, bytesOf, rowOf, processOf, slotsOf, ringOf, hartsOf, groupsOf, coreOf, booksOf, tableOf, flagOf, parentOf, memberOf, flagWord, parentWord, memberWord, InTable, InGroups}
+use Rattle.words.specs.declared.queue.RingAt.{RingAt}
+use Rattle.words.specs.Layout.{slotColumns, sizeColumn, countColumn, initCell, pidsCell, hartCell, columnAt, cellAt, column, cell}
+use Rattle.words.specs.Reading.{tabFrom, tab, bytesOf, rowOf, processOf, countAt, ringOf, queueAt, runQueue, slotsOf, hartsOf, groupsOf, coreOf, booksOf, tableOf, flagOf, parentOf, memberOf, flagWord, parentWord, memberWord, InTable, InGroups}
 
 -- ---- words all zero, however many they are
 tab-same : {A : Type 0} (n k : ℕ) (f : ℕ → A) (x : A) → ((i : ℕ) → f i ≡ x) → tabFrom n k f ≡ replicate n x
@@ -45,9 +46,9 @@ module _ (n : ℕ) where
   unfolding slotsOf tab
   slots-new = tab-same slotCount 0 _ free row-free
 
-  queue-new : queueOf slotCount turns (ringOf zeros) ≡ []
-  unfolding queueOf lengthOf reads ringOf
-  queue-new = rw (cell-zero headCell, cell-zero tailCell)
+  queue-new : (r : RingAt) → queueAt r zeros ≡ []
+  unfolding queueAt queueOf lengthOf reads ringOf countAt
+  queue-new r = rw (cell-zero (r .head), cell-zero (r .tail))
 
   harts-new : hartsOf zeros ≡ replicate hartCount Nobody
   unfolding hartsOf tab
@@ -59,7 +60,7 @@ module _ (n : ℕ) where
 
   pub new-law : tableOf zeros ≡ fresh
   unfolding tableOf coreOf booksOf fresh
-  new-law = rw (slots-new, queue-new, harts-new, groups-new, cell-zero initCell, cell-zero pidsCell)
+  new-law = rw (slots-new, queue-new runQueue, harts-new, groups-new, cell-zero initCell, cell-zero pidsCell)
 
 -- ---- a word and back
 pub flag-back : (b : Bool) → flagOf (flagWord b) ≡ b

@@ -1,6 +1,7 @@
 pub mod Places
 pub mod Tabs
 pub mod Rows
+pub mod Changes
 pub mod SlotLaws
 pub mod BookLaws
 pub mod QueueLaws

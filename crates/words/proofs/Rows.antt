@@ -13,8 +13,9 @@ use Rattle.rules.specs.Model.{Core, Books, Table, at, free, noGroup}
 use Rattle.rules.specs.Moves.{change}
 use Rattle.promises.specs.Laws.Ring.{Ring, queueOf}
 use Rattle.promises.specs.Order.Chains.{onCore}
-use Rattle.words.specs.Layout.{slotColumns, sizeColumn, countColumn, placeColumn, headCell, tailCell, initCell, pidsCell, hartCell, columnAt, wordCount, column, cell}
-use Rattle.words.specs.Reading.{rowOf, processOf, slotsOf, placesOf, ringOf, hartsOf, groupOf, groupsOf, coreOf, booksOf, tableOf, parentOf, turns}
+use Rattle.words.specs.declared.queue.RingAt.{RingAt}
+use Rattle.words.specs.Layout.{slotColumns, sizeColumn, countColumn, initCell, pidsCell, hartCell, columnAt, wordCount, column, cell}
+use Rattle.words.specs.Reading.{rowOf, processOf, turns, countAt, placesOf, ringOf, queueAt, runQueue, slotsOf, hartsOf, groupOf, groupsOf, coreOf, booksOf, tableOf, parentOf}
 use Rattle.words.proofs.Places.{column-range, column-here, column-there, cell-kept}
 use Rattle.words.proofs.Tabs.{getD-tab, tab-same, tab-set}
 
@@ -45,14 +46,14 @@ module _ (w u : List ℕ) where
   unfolding groupsOf groupCount
   groups-kept h k = tab-same slotCount (groupOf u) (groupOf w) noGroup (λ g b. group-is (h g b) (k g b))
 
-  pub places-kept : ((p : ℕ) → p < slotCount → column u placeColumn p ≡ column w placeColumn p) → placesOf u ≡ placesOf w
+  pub places-kept : (r : RingAt) → ((p : ℕ) → p < slotCount → column u (r .places) p ≡ column w (r .places) p) → placesOf r u ≡ placesOf r w
   unfolding placesOf
-  places-kept h = tab-same slotCount _ _ 0 (λ p b. ap (λ (x : ℕ). x % slotCount) (h p b))
+  places-kept r h = tab-same slotCount _ _ 0 (λ p b. ap (λ (x : ℕ). x % slotCount) (h p b))
 
-  pub ring-kept : ((p : ℕ) → p < slotCount → column u placeColumn p ≡ column w placeColumn p) → cell u headCell ≡ cell w headCell → cell u tailCell ≡ cell w tailCell
-      → ringOf u ≡ ringOf w
-  unfolding ringOf
-  ring-kept h a b = ring-is (places-kept h) (ap (λ (x : ℕ). x % turns) a) (ap (λ (x : ℕ). x % turns) b)
+  pub queue-kept : (r : RingAt) → ((p : ℕ) → p < slotCount → column u (r .places) p ≡ column w (r .places) p) → cell u (r .head) ≡ cell w (r .head) → cell u (r .tail) ≡ cell w (r .tail)
+      → queueAt r u ≡ queueAt r w
+  unfolding queueAt ringOf countAt
+  queue-kept r h a b = ap (queueOf slotCount turns) (ring-is (places-kept r h) (ap (λ (x : ℕ). x % turns) a) (ap (λ (x : ℕ). x % turns) b))
 
   pub harts-kept : ((h : ℕ) → h < hartCount → cell u (hartCell h) ≡ cell w (hartCell h)) → hartsOf u ≡ hartsOf w
   unfolding hartsOf
@@ -63,12 +64,12 @@ pub record Row (w u : List ℕ) (s : ℕ) (r : List ℕ) : Type 0 where
   pub long : length u ≡ wordCount
   pub here : rowOf u s ≡ r
   pub other : (i : ℕ) → i < slotCount → (i ≡ s → ⊥) → rowOf u i ≡ rowOf w i
-  pub ring : ringOf u ≡ ringOf w
+  pub queues : (r : RingAt) → slotColumns ≤ r .places → queueAt r u ≡ queueAt r w
   pub harts : hartsOf u ≡ hartsOf w
   pub books : booksOf u ≡ booksOf w
 
 pub row-here : (w : List ℕ) (s : ℕ) → length w ≡ wordCount → Row w w s (rowOf w s)
-row-here w s l = record { long = l; here = refl; other = λ i b n. refl; ring = refl; harts = refl; books = refl }
+row-here w s l = record { long = l; here = refl; other = λ i b n. refl; queues = λ r b. refl; harts = refl; books = refl }
 
 pub row-put : {w u : List ℕ} {s : ℕ} {r : List ℕ} (f v : ℕ) → f < slotColumns → s < slotCount → Row w u s r → Row w (set u (columnAt f s) v) s (set r f v)
 unfolding rowOf booksOf
@@ -76,7 +77,7 @@ row-put {w} {u} {s} {r} f v fb sb o = record {
   long = length-set u (columnAt f s) v ∙ o .long;
   here = mine ∙ ap (λ (l : List ℕ). set l f v) (o .here);
   other = λ i b n. tab-same slotColumns _ _ 0 (λ g a. column-there u f s v g i sb b (λ e. n (sym (e .1)))) ∙ o .other i b n;
-  ring = ring-kept u x (λ p b. above placeColumn p (omega arith) b) (cells headCell) (cells tailCell) ∙ o .ring;
+  queues = λ r a. queue-kept u x r (λ p b. above (r .places) p a b) (cells (r .head)) (cells (r .tail)) ∙ o .queues r a;
   harts = harts-kept u x (λ h b. cells (hartCell h)) ∙ o .harts;
   books = books-is (groups-kept u x (λ g b. above sizeColumn g (omega arith) b) (λ g b. above countColumn g (omega arith) b)) (ap parentOf (cells initCell)) (cells pidsCell) ∙ o .books;
 }
@@ -107,5 +108,5 @@ row-table w u s r g sb o e =
     (tab-set slotCount (λ i. processOf (rowOf w i)) (λ i. processOf (rowOf u i)) s (g (at (tableOf w .core) s)) free sb
     (ap processOf (o .here) ∙ e ∙ ap g (sym (at-row w s sb)))
     (λ i b n. ap processOf (o .other i b n)))
-    (ap (queueOf slotCount turns) (o .ring)) (o .harts))
+    (o .queues runQueue (omega arith)) (o .harts))
     (o .books)

@@ -1,8 +1,10 @@
 -- Where each word stands: a column for each field, with a word for each slot (or group, or place of the ring), then single cells, then the harts.
-use Prim.Native.Nat.{ℕ, _+_, _*_}
+use Prim.Native.Nat.{ℕ, _+_, _*_, _<_}
+use mathlib.Core.Logic.{_≢_}
 use mathlib.Core.List.{List}
 use lib.ListN.{getD}
 use Rattle.rules.specs.Sizes.{slotCount, hartCount}
+use Rattle.words.specs.declared.queue.RingAt.{RingAt}
 
 -- of a slot: its meta,
 abbrev pub stateColumn : ℕ
@@ -105,6 +107,13 @@ cellAt k = columns * slotCount + k
 
 unfoldable pub wordCount : ℕ
 wordCount = columns * slotCount + cells + hartCount
+
+-- a ring that stands in the words, its two cells apart
+pub record Stands (r : RingAt) : Type 0 where
+  pub head : r .head < cells + hartCount
+  pub tail : r .tail < cells + hartCount
+  pub apart : r .head ≢ r .tail
+  pub places : r .places < columns
 
 -- ---- reading
 unfoldable pub column : List ℕ → ℕ → ℕ → ℕ

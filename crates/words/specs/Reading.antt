@@ -20,6 +20,7 @@ use Rattle.rules.specs.Model.{Core, Books, Table, pid, slot}
 use Rattle.promises.specs.Laws.Ring.{Ring, queueOf}
 pub use Rattle.promises.specs.Order.Sound.{InTable, InGroups}
 use Rattle.words.specs.declared.slot.StartWords.{StartWords}
+use Rattle.words.specs.declared.queue.RingAt.{RingAt}
 use Rattle.words.specs.Layout.{stateColumn, channelColumn, killedColumn, xstateColumn, pidColumn, queuedColumn, groupColumn, parentColumn, threadColumn, systemColumn, belowColumn, spColumn, entryColumn, topColumn, argColumn, retColumn, name0Column, name1Column, slotColumns, sizeColumn, countColumn, placeColumn, headCell, tailCell, initCell, pidsCell, hartCell, column, cell}
 
 -- f k, f (k + 1), .., n of them
@@ -46,10 +47,6 @@ memberOf n = cond (eqb n 0) Alone (In ((n - 1) % groupCount))
 -- eight bytes, the lowest first
 unfoldable pub bytesOf : ℕ → List ℕ
 bytesOf n = tab 8 (λ i. n / 256 ^ i % 256)
-
--- the range of a running count
-abbrev pub turns : ℕ
-turns = 2 ^ 32
 
 -- ---- the word for a meaning: no is 0, yes is 1; none is 0, a slot or a group one more than its number
 abbrev pub flagWord : Bool → ℕ
@@ -101,15 +98,33 @@ startWordsOf r = record {
 unfoldable pub processOf : List ℕ → Process
 processOf r = record { meta = metaOf r; kin = kinOf r; start = startOf (startWordsOf r) }
 
+-- ---- a ring, wherever it stands
+-- the range of a running count
+abbrev pub turns : ℕ
+turns = 2 ^ 32
+
+unfoldable pub countAt : List ℕ → ℕ → ℕ
+countAt w k = cell w k % turns
+
+-- what the place holds that is i past the head
+unfoldable pub placeAt : RingAt → List ℕ → ℕ → ℕ
+placeAt r w i = column w (r .places) ((countAt w (r .head) + i) % slotCount) % slotCount
+
+unfoldable pub placesOf : RingAt → List ℕ → List ℕ
+placesOf r w = tab slotCount (λ p. column w (r .places) p % slotCount)
+
+unfoldable pub ringOf : RingAt → List ℕ → Ring
+ringOf r w = record { places = placesOf r w; head = countAt w (r .head); tail = countAt w (r .tail) }
+
+unfoldable pub queueAt : RingAt → List ℕ → List ℕ
+queueAt r w = queueOf slotCount turns (ringOf r w)
+
+abbrev pub runQueue : RingAt
+runQueue = record { head = headCell; tail = tailCell; places = placeColumn }
+
 -- ---- the table
 unfoldable pub slotsOf : List ℕ → List Process
 slotsOf w = tab slotCount (λ s. processOf (rowOf w s))
-
-unfoldable pub placesOf : List ℕ → List ℕ
-placesOf w = tab slotCount (λ p. column w placeColumn p % slotCount)
-
-unfoldable pub ringOf : List ℕ → Ring
-ringOf w = record { places = placesOf w; head = cell w headCell % turns; tail = cell w tailCell % turns }
 
 unfoldable pub hartsOf : List ℕ → List Parent
 hartsOf w = tab hartCount (λ h. parentOf (cell w (hartCell h)))
@@ -121,7 +136,7 @@ unfoldable pub groupsOf : List ℕ → List Group
 groupsOf w = tab groupCount (groupOf w)
 
 unfoldable pub coreOf : List ℕ → Core
-coreOf w = record { slots = slotsOf w; queue = queueOf slotCount turns (ringOf w); harts = hartsOf w }
+coreOf w = record { slots = slotsOf w; queue = queueAt runQueue w; harts = hartsOf w }
 
 unfoldable pub booksOf : List ℕ → Books
 booksOf w = record { groups = groupsOf w; init = parentOf (cell w initCell); pids = cell w pidsCell }

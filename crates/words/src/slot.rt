@@ -1,19 +1,21 @@
-// A slot's three parts, read and set.
+// A slot's fields and its three parts, read and set.
 ghost use mathlib.Core.Path.{_≡_};
 ghost use Prim.Native.Nat.{_<_};
 ghost use Rattle.rules.specs.Sizes.{slotCount};
-ghost use Rattle.rules.specs.Model.{at};
+ghost use Rattle.rules.specs.Model.{at, onMeta, withParent};
 ghost use Rattle.rules.specs.Moves.{change};
 ghost use Rattle.promises.specs.Order.Chains.{onCore};
 ghost use Rattle.words.specs.Reading.{tableOf, startOf, InTable, InGroups};
-ghost use Rattle.words.specs.Effects.{withMeta, withKin, withStart};
+ghost use Rattle.words.specs.Effects.{withState, withChannel, withKilled, withXstate, withPid, withQueued, withMeta, withKin, withStart};
 use crate::Table;
 use crate::get;
 use crate::put;
 use crate::word;
 use rules::Kin;
+use rules::Parent;
 use rules::Pid;
 use rules::ProcMeta;
+use rules::ProcState;
 
 // The columns of a slot, in the order of specs/Layout.
 const STATE_COLUMN: usize = 0;
@@ -66,15 +68,93 @@ pub struct StartWords {
     pub name1: u64,
 }
 
+// How a state stands in the words is known to `state_at` and `set_state` alone.
+pub fn state_at(t: &[u64; Table::WORDS], s: usize) -> ProcState
+    requires { ⌜ s < slotCount ⌝ }
+    ensures { λ r. ⌜ r ≡ at (tableOf (now (t .entry)) .core) s .meta .state ⌝ }
+{
+    word::state_of(get(t, STATE_COLUMN, s))
+}
+
+pub fn set_state(t: &mut [u64; Table::WORDS], s: usize, state: ProcState)
+    requires { ⌜ s < slotCount ⌝ }
+    ensures { λ _. ⌜ tableOf (now (t .exit)) ≡ onCore (change (onMeta (withState state)) s) (tableOf (now (t .entry))) ⌝ }
+{
+    put(t, STATE_COLUMN, s, word::state_code(state));
+}
+
+pub fn channel_at(t: &[u64; Table::WORDS], s: usize) -> u64
+    requires { ⌜ s < slotCount ⌝ }
+    ensures { λ r. ⌜ r ≡ at (tableOf (now (t .entry)) .core) s .meta .channel ⌝ }
+{
+    get(t, CHANNEL_COLUMN, s)
+}
+
+pub fn set_channel(t: &mut [u64; Table::WORDS], s: usize, channel: u64)
+    requires { ⌜ s < slotCount ⌝ }
+    ensures { λ _. ⌜ tableOf (now (t .exit)) ≡ onCore (change (onMeta (withChannel channel)) s) (tableOf (now (t .entry))) ⌝ }
+{
+    put(t, CHANNEL_COLUMN, s, channel);
+}
+
+pub fn set_killed(t: &mut [u64; Table::WORDS], s: usize, killed: bool)
+    requires { ⌜ s < slotCount ⌝ }
+    ensures { λ _. ⌜ tableOf (now (t .exit)) ≡ onCore (change (onMeta (withKilled killed)) s) (tableOf (now (t .entry))) ⌝ }
+{
+    put(t, KILLED_COLUMN, s, word::flag_word(killed));
+}
+
+pub fn set_xstate(t: &mut [u64; Table::WORDS], s: usize, status: u64)
+    requires { ⌜ s < slotCount ⌝ }
+    ensures { λ _. ⌜ tableOf (now (t .exit)) ≡ onCore (change (onMeta (withXstate status)) s) (tableOf (now (t .entry))) ⌝ }
+{
+    put(t, XSTATE_COLUMN, s, status);
+}
+
+pub fn pid_at(t: &[u64; Table::WORDS], s: usize) -> Pid
+    requires { ⌜ s < slotCount ⌝ }
+    ensures { λ r. ⌜ r ≡ at (tableOf (now (t .entry)) .core) s .meta .pid ⌝ }
+{
+    Pid(get(t, PID_COLUMN, s))
+}
+
+fn set_pid(t: &mut [u64; Table::WORDS], s: usize, pid: Pid)
+    requires { ⌜ s < slotCount ⌝ }
+    ensures { λ _. ⌜ tableOf (now (t .exit)) ≡ onCore (change (onMeta (withPid pid)) s) (tableOf (now (t .entry))) ⌝ }
+{
+    put(t, PID_COLUMN, s, pid.0);
+}
+
+pub fn set_queued(t: &mut [u64; Table::WORDS], s: usize, queued: bool)
+    requires { ⌜ s < slotCount ⌝ }
+    ensures { λ _. ⌜ tableOf (now (t .exit)) ≡ onCore (change (onMeta (withQueued queued)) s) (tableOf (now (t .entry))) ⌝ }
+{
+    put(t, QUEUED_COLUMN, s, word::flag_word(queued));
+}
+
+pub fn parent_at(t: &[u64; Table::WORDS], s: usize) -> Parent
+    requires { ⌜ s < slotCount ⌝ }
+    ensures { λ r. ⌜ (r ≡ at (tableOf (now (t .entry)) .core) s .kin .parent) × InTable r ⌝ }
+{
+    word::parent_of(get(t, PARENT_COLUMN, s))
+}
+
+pub fn set_parent(t: &mut [u64; Table::WORDS], s: usize, parent: Parent)
+    requires { ⌜ (s < slotCount) × InTable parent ⌝ }
+    ensures { λ _. ⌜ tableOf (now (t .exit)) ≡ onCore (change (withParent parent) s) (tableOf (now (t .entry))) ⌝ }
+{
+    put(t, PARENT_COLUMN, s, word::parent_word(parent));
+}
+
 pub fn meta_at(t: &[u64; Table::WORDS], s: usize) -> ProcMeta
     requires { ⌜ s < slotCount ⌝ }
     ensures { λ r. ⌜ r ≡ at (tableOf (now (t .entry)) .core) s .meta ⌝ }
 {
-    let state = word::state_of(get(t, STATE_COLUMN, s));
-    let channel = get(t, CHANNEL_COLUMN, s);
+    let state = state_at(t, s);
+    let channel = channel_at(t, s);
     let killed = word::flag_of(get(t, KILLED_COLUMN, s));
     let xstate = get(t, XSTATE_COLUMN, s);
-    let pid = Pid(get(t, PID_COLUMN, s));
+    let pid = pid_at(t, s);
     let queued = word::flag_of(get(t, QUEUED_COLUMN, s));
     ProcMeta {
         state,
@@ -92,12 +172,12 @@ pub fn set_meta(t: &mut [u64; Table::WORDS], s: usize, m: ProcMeta)
 {
     let state = m.state;
     let pid = m.pid;
-    put(t, STATE_COLUMN, s, word::state_code(state));
-    put(t, CHANNEL_COLUMN, s, m.channel);
-    put(t, KILLED_COLUMN, s, word::flag_word(m.killed));
-    put(t, XSTATE_COLUMN, s, m.xstate);
-    put(t, PID_COLUMN, s, pid.0);
-    put(t, QUEUED_COLUMN, s, word::flag_word(m.queued));
+    set_state(t, s, state);
+    set_channel(t, s, m.channel);
+    set_killed(t, s, m.killed);
+    set_xstate(t, s, m.xstate);
+    set_pid(t, s, pid);
+    set_queued(t, s, m.queued);
 }
 
 pub fn kin_at(t: &[u64; Table::WORDS], s: usize) -> Kin
@@ -105,7 +185,7 @@ pub fn kin_at(t: &[u64; Table::WORDS], s: usize) -> Kin
     ensures { λ r. ⌜ (r ≡ at (tableOf (now (t .entry)) .core) s .kin) × InGroups (r .group) × InTable (r .parent) ⌝ }
 {
     let group = word::member_of(get(t, GROUP_COLUMN, s));
-    let parent = word::parent_of(get(t, PARENT_COLUMN, s));
+    let parent = parent_at(t, s);
     let thread = word::flag_of(get(t, THREAD_COLUMN, s));
     let system = word::flag_of(get(t, SYSTEM_COLUMN, s));
     Kin {

@@ -1,29 +1,18 @@
-use native.Mathlib.Omega.{arith}
-use Rattle.rules.specs.Sizes.{slotCount}
+use mathlib.Core.Path.{_∙_}
+use Rattle.words.specs.Reading.{runQueue, coreOf, tableOf}
 use Rattle.words.proofs.QueueLaws.{queued-law}
 use borrow.Author.Needs.{needs}
 use Rattle.words.proofs.queue.queued_at.Statement.{statement}
 use Rattle.words.proofs.queue.queued_at.Tie as tie
 
-get-cell-requires : tie.Need-get-cell-requires
-get-cell-requires c κs = search needs
-
-add-get : tie.Need-add-get
-unfolding slotCount
-add-get c = omega arith
-
-get-requires : tie.Need-get-requires
-unfolding slotCount
-get-requires c κs = omega arith
-
-rem-result : tie.Need-rem-result
-rem-result c = search needs
+place-in-requires : tie.Need-place-in-requires
+place-in-requires c κs = search needs
 
 returns : tie.Need-returns
-unfolding slotCount
+unfolding tableOf coreOf
 returns c =
-    let entry = c .before .before in
-    (rw (c .get .ensures, c .before .get-cell .ensures) (queued-law (entry .args .t .now) (entry .args .i) (entry .pre .1) (entry .pre .0)), omega arith)
+    let entry = c .before in
+    (c .place-in .ensures .0 ∙ queued-law runQueue (entry .args .t .now) (entry .args .i) (entry .pre .1) (entry .pre .0), c .place-in .ensures .1)
 
 pub queued-at-spec : {M : Type 1} → statement M
-queued-at-spec = tie.close (tie.spec get-cell-requires add-get get-requires rem-result returns)
+queued-at-spec = tie.close (tie.spec place-in-requires returns)

@@ -28,16 +28,16 @@ put-requires-4 : tie.Need-put-requires-4
 put-requires-4 c κs = search needs
 
 returns : tie.Need-returns
-returns c = let a = c .before .before .before .before .before .before .before .before .before .before .before .before in rw (
-  c .put4 .ensures .0,
-  c .before .flag-word2 .ensures,
-  c .before .before .before .put3 .ensures .0,
-  c .before .before .before .before .flag-word .ensures,
-  c .before .before .before .before .before .before .put2 .ensures .0,
-  c .before .before .before .before .before .before .before .parent-word .ensures,
-  c .before .before .before .before .before .before .before .before .before .put .ensures .0,
-  c .before .before .before .before .before .before .before .before .before .before .member-word .ensures,
-) (set-kin-law (a .args .t .now) (a .args .s) (a .pre .0) (c .before .before .before .before .before .before .before .before .before .put .ensures .1) (a .args .k) (a .pre .1) (a .pre .2))
+returns c =
+    let entry = c .before .before .before .before .before .before .before .before .before .before .before .before in
+    let member-word = c .before .before .before .before .before .before .before .before .before .before .member-word in
+    let put = c .before .before .before .before .before .before .before .before .before .put in
+    let parent-word = c .before .before .before .before .before .before .before .parent-word in
+    let put2 = c .before .before .before .before .before .before .put2 in
+    let flag-word = c .before .before .before .before .flag-word in
+    let put3 = c .before .before .before .put3 in
+    rw (c .put4 .ensures .0, c .before .flag-word2 .ensures, put3 .ensures .0, flag-word .ensures, put2 .ensures .0, parent-word .ensures, put .ensures .0, member-word .ensures)
+    (set-kin-law (entry .args .t .now) (entry .args .s) (entry .pre .0) (put .ensures .1) (entry .args .k) (entry .pre .1) (entry .pre .2))
 
 pub set-kin-spec : {M : Type 1} → statement M
 set-kin-spec =

@@ -1,58 +1,47 @@
-use Rattle.words.proofs.SlotLaws.{set-meta-law}
+use Rattle.words.specs.Reading.{tableOf}
+use Rattle.words.proofs.Changes.{change-then}
 use borrow.Author.Needs.{needs}
 use Rattle.words.proofs.slot.set_meta.Statement.{statement}
 use Rattle.words.proofs.slot.set_meta.Tie as tie
 
-state-code-requires : tie.Need-state-code-requires
-state-code-requires c κs = search needs
+set-state-requires : tie.Need-set-state-requires
+set-state-requires c κs = search needs
 
-put-requires : tie.Need-put-requires
-put-requires c κs = search needs
+set-channel-requires : tie.Need-set-channel-requires
+set-channel-requires c κs = search needs
 
-put-requires-2 : tie.Need-put-requires-2
-put-requires-2 c κs = search needs
+set-killed-requires : tie.Need-set-killed-requires
+set-killed-requires c κs = search needs
 
-flag-word-requires : tie.Need-flag-word-requires
-flag-word-requires c κs = search needs
+set-xstate-requires : tie.Need-set-xstate-requires
+set-xstate-requires c κs = search needs
 
-put-requires-3 : tie.Need-put-requires-3
-put-requires-3 c κs = search needs
+set-pid-requires : tie.Need-set-pid-requires
+set-pid-requires c κs = search needs
 
-put-requires-4 : tie.Need-put-requires-4
-put-requires-4 c κs = search needs
-
-put-requires-5 : tie.Need-put-requires-5
-put-requires-5 c κs = search needs
-
-flag-word-requires-2 : tie.Need-flag-word-requires-2
-flag-word-requires-2 c κs = search needs
-
-put-requires-6 : tie.Need-put-requires-6
-put-requires-6 c κs = search needs
+set-queued-requires : tie.Need-set-queued-requires
+set-queued-requires c κs = search needs
 
 returns : tie.Need-returns
-returns c = let a = c .before .before .before .before .before .before .before .before .before .before .before .before .before .before .before .before in rw (
-  c .put6 .ensures .0,
-  c .before .flag-word2 .ensures,
-  c .before .before .before .put5 .ensures .0,
-  c .before .before .before .before .before .put4 .ensures .0,
-  c .before .before .before .before .before .before .before .put3 .ensures .0,
-  c .before .before .before .before .before .before .before .before .flag-word .ensures,
-  c .before .before .before .before .before .before .before .before .before .before .put2 .ensures .0,
-  c .before .before .before .before .before .before .before .before .before .before .before .before .put .ensures .0,
-) (set-meta-law (a .args .t .now) (a .args .s) (a .pre) (c .before .before .before .before .before .before .before .before .before .before .before .before .put .ensures .1) (a .args .m) _ (c .before .before .before .before .before .before .before .before .before .before .before .before .before .state-code .ensures .1))
+returns c =
+    let set-state = c .before .before .before .before .before .before .before .before .before .before .set-state in
+    let set-channel = c .before .before .before .before .before .before .before .before .set-channel in
+    let set-killed = c .before .before .before .before .before .before .set-killed in
+    let set-xstate = c .before .before .before .before .set-xstate in
+    let entry = c .before .before .before .before .before .before .before .before .before .before .before .before .before in
+    let s = entry .args .s in
+    let t = tableOf (entry .args .t .now) in
+    let three = change-then _ _ s t (change-then _ _ s t (set-state .ensures) (set-channel .ensures)) (set-killed .ensures) in
+    change-then _ _ s t (change-then _ _ s t (change-then _ _ s t three (set-xstate .ensures)) (c .before .before .set-pid .ensures)) (c .set-queued .ensures)
 
 pub set-meta-spec : {M : Type 1} → statement M
 set-meta-spec =
     tie.close
     (tie.spec
-    state-code-requires
-    put-requires
-    put-requires-2
-    flag-word-requires
-    put-requires-3
-    put-requires-4
-    put-requires-5
-    flag-word-requires-2
-    put-requires-6
+    set-state-requires
+    set-channel-requires
+    set-killed-requires
+    set-xstate-requires
+    set-pid-requires
+    set-queued-requires
     returns)

@@ -1,5 +1,5 @@
-use Rattle.words.specs.Reading.{tabFrom, tab, rowOf}
-use Rattle.words.proofs.SlotLaws.{start-law}
+use Rattle.words.specs.Reading.{tabFrom, tab, rowOf, processOf}
+use Rattle.words.proofs.Rows.{at-row}
 use borrow.Author.Needs.{needs}
 use Rattle.words.proofs.slot.start_at.Statement.{statement}
 use Rattle.words.proofs.slot.start_at.Tie as tie
@@ -29,7 +29,7 @@ get-requires-8 : tie.Need-get-requires-8
 get-requires-8 c κs = search needs
 
 returns : tie.Need-returns
-unfolding rowOf tab tabFrom
+unfolding processOf rowOf tab tabFrom
 returns c =
     let entry = c .before .before .before .before .before .before .before .before in
     let get = c .before .before .before .before .before .before .before .get in
@@ -37,8 +37,7 @@ returns c =
     let get3 = c .before .before .before .before .before .get3 in
     let get4 = c .before .before .before .before .get4 in
     let get5 = c .before .before .before .get5 in
-    rw (c .get8 .ensures, c .before .get7 .ensures, c .before .before .get6 .ensures, get5 .ensures, get4 .ensures, get3 .ensures, get2 .ensures, get .ensures)
-    (start-law (entry .args .t .now) (entry .args .s) (entry .pre))
+    rw (c .get8 .ensures, c .before .get7 .ensures, c .before .before .get6 .ensures, get5 .ensures, get4 .ensures, get3 .ensures, get2 .ensures, get .ensures, at-row (entry .args .t .now) (entry .args .s) (entry .pre))
 
 pub start-at-spec : {M : Type 1} → statement M
 start-at-spec =
