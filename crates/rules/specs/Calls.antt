@@ -281,10 +281,12 @@ leaderExited t h x s =
     let u = reapThreads m t in
     exitedPast u h x s (lowest (threadOf m) (u .core .slots))
 
+-- init and system threads leave in neither way
+abbrev pub stays : Table → ℕ → Bool
+stays t s = isSlot s (t .books .init) || at (t .core) s .kin .system
+
 unfoldable pub exitedBy : Table → ℕ → ℕ → ℕ → Outcome
-exitedBy t h x s =
-    refuseIf (isSlot s (t .books .init) || at (t .core) s .kin .system || at (t .core) s .kin .thread) WrongWayOut t
-    (leaderExited t h x s)
+exitedBy t h x s = refuseIf (stays t s || at (t .core) s .kin .thread) WrongWayOut t (leaderExited t h x s)
 
 unfoldable pub exited : Table → ℕ → ℕ → Outcome
 exited t h x = onHart t h (exitedBy t h x)
@@ -292,7 +294,7 @@ exited t h x = onHart t h (exitedBy t h x)
 -- thread exit by a non-thread is the same as exit
 unfoldable pub threadExitedBy : Table → ℕ → ℕ → ℕ → Outcome
 threadExitedBy t h x s =
-    refuseIf (isSlot s (t .books .init) || at (t .core) s .kin .system) WrongWayOut t
+    refuseIf (stays t s) WrongWayOut t
     (cond (at (t .core) s .kin .thread) (threadEnded t h x s) (leaderExited t h x s))
 
 unfoldable pub threadExited : Table → ℕ → ℕ → Outcome
