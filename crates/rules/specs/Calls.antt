@@ -1,4 +1,7 @@
 -- The calls, in document 01's order: for each, its refusals in order, and what it does when granted. First what they share.
+-- A call is named by what it has done, as `forked`. What is left of it once something is known has a suffix that says what: By, the caller s;
+-- In, the slot that was taken, on a table with the pid spent; At, where init is; To, the thread or the size that was found; For and Past, what the scan
+-- for a ZOMBIE child or for a live thread found. Letters: t a table, c a core, h a hart, s the caller, i another slot, g a group, x a status, w a wish.
 use Prim.Native.Nat.{ℕ, _+_, _-_, _%_, _^_}
 use mathlib.Core.Bool.{Bool, true, false, not, cond, _&&_, _||_}
 use mathlib.Core.List.{List, [], _∷_, _++_}
