@@ -24,9 +24,9 @@ use words::slot::StartWords;
 
 const NAME_SIZE: usize = 16;
 
-fn boot_in(t: &mut [u64; Table::WORDS], s: usize) -> Answer
-    requires { ⌜ s < slotCount ⌝ }
-    ensures { λ r. ⌜ Makes (bootedIn s (tableOf (now (t .entry)))) r (tableOf (now (t .exit))) ⌝ }
+fn boot_in(t: &mut [u64; Table::WORDS], i: usize) -> Answer
+    requires { ⌜ i < slotCount ⌝ }
+    ensures { λ r. ⌜ Makes (bootedIn i (tableOf (now (t .entry)))) r (tableOf (now (t .exit))) ⌝ }
 {
     let n = book::pids(t);
     let g = scans::new_group(t);
@@ -39,7 +39,7 @@ fn boot_in(t: &mut [u64; Table::WORDS], s: usize) -> Answer
     };
     let b = StartWords {
         below: 0,
-        sp: stacks::user_sp(s),
+        sp: stacks::user_sp(i),
         entry: 0,
         top: 4 * stacks::PAGE,
         arg: 0,
@@ -47,7 +47,7 @@ fn boot_in(t: &mut [u64; Table::WORDS], s: usize) -> Answer
         name0: name.low,
         name1: name.high,
     };
-    taking::fill(t, s, n, k, b);
+    taking::fill(t, i, n, k, b);
     book::set_group(
         t,
         g,
@@ -56,7 +56,7 @@ fn boot_in(t: &mut [u64; Table::WORDS], s: usize) -> Answer
             count: 1,
         },
     );
-    book::set_init(t, Parent::Of(Slot(s)));
+    book::set_init(t, Parent::Of(Slot(i)));
     Answer::Made(Pid(n))
 }
 
@@ -70,7 +70,7 @@ pub fn user_init(t: &mut [u64; Table::WORDS]) -> Answer
     }
     match taking::alloc_proc(t) {
         Got::No(n) => Answer::Refused(n),
-        Got::Is(s) => boot_in(t, s),
+        Got::Is(i) => boot_in(t, i),
     }
 }
 
@@ -79,20 +79,20 @@ pub fn start_init_process(t: &mut [u64; Table::WORDS]) -> Answer
     ensures { λ r. ⌜ Did start (tableOf (now (t .entry))) r (tableOf (now (t .exit))) ⌝ }
 {
     let p = book::init(t);
-    let Parent::Of(x) = p else {
+    let Parent::Of(init) = p else {
         return Answer::Refused(Refusal::InitOutOfTurn);
     };
-    let s = x.0;
-    if scans::is(t, s, ProcState::ALLOCATED) {
-        moves::make_runnable(t, s);
+    let i = init.0;
+    if scans::is(t, i, ProcState::ALLOCATED) {
+        moves::make_runnable(t, i);
         return Answer::Done;
     }
     Answer::Refused(Refusal::InitOutOfTurn)
 }
 
-fn spawn_in(t: &mut [u64; Table::WORDS], name: &[u8], entry: u64, s: usize) -> Answer
-    requires { ⌜ (s < slotCount) × (length (tableOf (now t) .core .queue) < slotCount) ⌝ }
-    ensures { λ r. ⌜ Makes (spawnedIn (now (name .entry)) entry s (tableOf (now (t .entry)))) r (tableOf (now (t .exit))) ⌝ }
+fn spawn_in(t: &mut [u64; Table::WORDS], name: &[u8], entry: u64, i: usize) -> Answer
+    requires { ⌜ (i < slotCount) × (length (tableOf (now t) .core .queue) < slotCount) ⌝ }
+    ensures { λ r. ⌜ Makes (spawnedIn (now (name .entry)) entry i (tableOf (now (t .entry)))) r (tableOf (now (t .exit))) ⌝ }
 {
     let n = book::pids(t);
     let w = names::pack(name);
@@ -104,7 +104,7 @@ fn spawn_in(t: &mut [u64; Table::WORDS], name: &[u8], entry: u64, s: usize) -> A
     };
     let b = StartWords {
         below: 0,
-        sp: stacks::system_sp(s),
+        sp: stacks::system_sp(i),
         entry,
         top: 0,
         arg: 0,
@@ -112,8 +112,8 @@ fn spawn_in(t: &mut [u64; Table::WORDS], name: &[u8], entry: u64, s: usize) -> A
         name0: w.low,
         name1: w.high,
     };
-    taking::fill(t, s, n, k, b);
-    moves::make_runnable(t, s);
+    taking::fill(t, i, n, k, b);
+    moves::make_runnable(t, i);
     Answer::Made(Pid(n))
 }
 
@@ -126,31 +126,31 @@ pub fn spawn_system_thread(t: &mut [u64; Table::WORDS], name: &[u8], entry: u64)
     }
     match taking::alloc_proc(t) {
         Got::No(n) => Answer::Refused(n),
-        Got::Is(s) => spawn_in(t, name, entry, s),
+        Got::Is(i) => spawn_in(t, name, entry, i),
     }
 }
 
 // A system thread's return frees its slot at once.
-fn return_by(t: &mut [u64; Table::WORDS], h: usize, s: usize) -> Answer
-    requires { ⌜ (h < hartCount) × (s < slotCount) ⌝ }
-    ensures { λ r. ⌜ Makes (systemReturnedBy (tableOf (now (t .entry))) h s) r (tableOf (now (t .exit))) ⌝ }
+fn return_by(t: &mut [u64; Table::WORDS], hart: usize, caller: usize) -> Answer
+    requires { ⌜ (hart < hartCount) × (caller < slotCount) ⌝ }
+    ensures { λ r. ⌜ Makes (systemReturnedBy (tableOf (now (t .entry))) hart caller) r (tableOf (now (t .exit))) ⌝ }
 {
-    let k = slot::kin_at(t, s);
+    let k = slot::kin_at(t, caller);
     if k.system {
-        moves::idle(t, h);
-        taking::free_proc(t, s);
+        moves::idle(t, hart);
+        taking::free_proc(t, caller);
         return Answer::Done;
     }
     Answer::Refused(Refusal::WrongWayOut)
 }
 
-pub fn free_system_thread(t: &mut [u64; Table::WORDS], h: usize) -> Answer
+pub fn free_system_thread(t: &mut [u64; Table::WORDS], hart: usize) -> Answer
     requires { ⌜ Sound (tableOf (now t)) ⌝ }
-    ensures { λ r. ⌜ Did (systemReturn h) (tableOf (now (t .entry))) r (tableOf (now (t .exit))) ⌝ }
+    ensures { λ r. ⌜ Did (systemReturn hart) (tableOf (now (t .entry))) r (tableOf (now (t .exit))) ⌝ }
 {
-    let c = taking::caller_on(t, h);
+    let c = taking::caller_on(t, hart);
     match c {
         Got::No(n) => Answer::Refused(n),
-        Got::Is(s) => return_by(t, h, s),
+        Got::Is(caller) => return_by(t, hart, caller),
     }
 }

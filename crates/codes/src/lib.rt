@@ -39,44 +39,44 @@ pub fn wish_of(n: u64) -> Wish
     }
 }
 
-fn fork(h: u64, memory: u64) -> Read
-    ensures { λ r. ⌜ asOption r ≡ onlyIf (isFlag memory) (Fork h (yes memory)) ⌝ }
+fn fork(hart: u64, memory: u64) -> Read
+    ensures { λ r. ⌜ asOption r ≡ onlyIf (isFlag memory) (Fork hart (yes memory)) ⌝ }
 {
     if memory >= 2 {
         return Read::No;
     }
-    Read::Is(Call::Fork(h as usize, memory == 1))
+    Read::Is(Call::Fork(hart as usize, memory == 1))
 }
 
-fn wait(h: u64, w: u64) -> Read
-    ensures { λ r. ⌜ asOption r ≡ onlyIf (isWish w) (Wait h (wishOf w)) ⌝ }
+fn wait(hart: u64, w: u64) -> Read
+    ensures { λ r. ⌜ asOption r ≡ onlyIf (isWish w) (Wait hart (wishOf w)) ⌝ }
 {
     if w >= 3 {
         return Read::No;
     }
     let wish = wish_of(w);
-    Read::Is(Call::Wait(h as usize, wish))
+    Read::Is(Call::Wait(hart as usize, wish))
 }
 
-fn join(h: u64, p: u64, w: u64) -> Read
-    ensures { λ r. ⌜ asOption r ≡ onlyIf (isWish w) (Join h (pid p) (wishOf w)) ⌝ }
+fn join(hart: u64, p: u64, w: u64) -> Read
+    ensures { λ r. ⌜ asOption r ≡ onlyIf (isWish w) (Join hart (pid p) (wishOf w)) ⌝ }
 {
     if w >= 3 {
         return Read::No;
     }
     let wish = wish_of(w);
     let p = Pid(p);
-    Read::Is(Call::Join(h as usize, p, wish))
+    Read::Is(Call::Join(hart as usize, p, wish))
 }
 
-fn grow(h: u64, count: u64, memory: u64) -> Read
-    ensures { λ r. ⌜ asOption r ≡ onlyIf (isFlag memory) (Grow h (signedOf count) (yes memory)) ⌝ }
+fn grow(hart: u64, count: u64, memory: u64) -> Read
+    ensures { λ r. ⌜ asOption r ≡ onlyIf (isFlag memory) (Grow hart (signedOf count) (yes memory)) ⌝ }
 {
     if memory >= 2 {
         return Read::No;
     }
     let count = signed_of(count);
-    Read::Is(Call::Grow(h as usize, count, memory == 1))
+    Read::Is(Call::Grow(hart as usize, count, memory == 1))
 }
 
 pub fn mapped_of(n: u64) -> Mapped
@@ -90,14 +90,14 @@ pub fn mapped_of(n: u64) -> Mapped
     }
 }
 
-fn thread(h: u64, ask: ThreadAsk, mapped: u64) -> Read
-    ensures { λ r. ⌜ asOption r ≡ onlyIf (isMapped mapped) (Thread h ask (mappedOf mapped)) ⌝ }
+fn thread(hart: u64, ask: ThreadAsk, mapped: u64) -> Read
+    ensures { λ r. ⌜ asOption r ≡ onlyIf (isMapped mapped) (Thread hart ask (mappedOf mapped)) ⌝ }
 {
     if mapped >= 16 {
         return Read::No;
     }
     let m = mapped_of(mapped);
-    Read::Is(Call::Thread(h as usize, ask, m))
+    Read::Is(Call::Thread(hart as usize, ask, m))
 }
 
 fn ask_of(w: &[u64]) -> ThreadAsk

@@ -1,6 +1,6 @@
 -- Each way through exit and thread exit, as the rules have it.
 use Prim.Native.Nat.{ℕ}
-use mathlib.Core.Path.{_≡_, ap, _∙_, subst}
+use mathlib.Core.Path.{_≡_, refl, sym, ap, _∙_, subst}
 use mathlib.Core.Bool.{true, false}
 use mathlib.Core.Option.{Option, none, some}
 use Rattle.rules.specs.declared.Member.{Member}
@@ -12,8 +12,9 @@ use Rattle.rules.specs.declared.Answer.the-variants.{Done, Blocked, Refused}
 use Rattle.rules.specs.Sizes.{slotCount, ownChannel}
 use Rattle.rules.specs.Model.{Table, at, isSlot}
 use Rattle.rules.specs.Moves.{sleepOn, zombieOn, lowest, wake, wakeOf, slay, handOver, reparent}
-use Rattle.rules.specs.Calls.{threadOf, reapThreads, departing, exitedPast, leaderExited, threadEnded, exitedBy, exited, threadExitedBy, threadExited}
+use Rattle.rules.specs.Calls.{threadOf, reapThreads, departing, exitedPast, leaderExited, threadEnded, Outcome, stays, exitedBy, exited, threadExitedBy, threadExited}
 use Rattle.rules.specs.Runs.{step, exit, threadExit}
+use Rattle.promises.specs.Laws.Bools.{or-yes}
 use Rattle.promises.specs.Laws.Scans.{sweep-keeps}
 use Rattle.promises.specs.Order.Sound.{Queued, Sound}
 use Rattle.promises.specs.Order.QueuedKept.{handOver-queued}
@@ -21,6 +22,7 @@ use Rattle.promises.specs.Order.Kept.{chain-sound}
 use Rattle.promises.specs.Order.Chains.{onCore}
 use Rattle.promises.specs.Calls.Walks.{reapThreads-chain}
 use Rattle.promises.specs.Did.{Makes}
+use Rattle.promises.specs.ThreadExit.{exit-by-leader}
 use Rattle.scans.specs.declared.Found.{Found}
 use Rattle.scans.specs.declared.Test.the-variants.{ThreadOf}
 use Rattle.scans.specs.Tests.{passes, asOption}
@@ -62,46 +64,37 @@ module _ (t : Table) (h x s : ℕ) where
       (subst (λ (v : Table). Makes (exitedPast v h x s (lowest (threadOf m) (v .core .slots))) a w) f k')
 
 -- ---- the calls
+module _ (t : Table) (s : ℕ) where
+  pub init-stays : isSlot s (t .books .init) ≡ true → true ≡ stays t s
+  init-stays e = rw e refl
+
+  pub system-stays : isSlot s (t .books .init) ≡ false → {k : Kin} → k ≡ at (t .core) s .kin → k .system ≡ stays t s
+  system-stays e f = rw e (ap (λ (k : Kin). k .system) f)
+
 module _ (t : Table) (h x s : ℕ) where
-  pub init-stays : isSlot s (t .books .init) ≡ true → Makes (exitedBy t h x s) (Refused WrongWayOut) t
-  unfolding exitedBy
-  init-stays e = if-so _ (rw e)
-
-  pub init-stays-too : isSlot s (t .books .init) ≡ true → Makes (threadExitedBy t h x s) (Refused WrongWayOut) t
+  pub stayed : stays t s ≡ true → Makes (threadExitedBy t h x s) (Refused WrongWayOut) t
   unfolding threadExitedBy
-  init-stays-too e = if-so _ (rw e)
+  stayed e = if-so _ e
 
-  module _ (i : isSlot s (t .books .init) ≡ false) {k : Kin} (e : k ≡ at (t .core) s .kin) where
-    system : k .system ≡ at (t .core) s .kin .system
-    system = ap (λ (k : Kin). k .system) e
-
+  module _ {k : Kin} (e : k ≡ at (t .core) s .kin) where
     thread : k .thread ≡ at (t .core) s .kin .thread
     thread = ap (λ (k : Kin). k .thread) e
 
-    pub system-stays : k .system ≡ true → Makes (exitedBy t h x s) (Refused WrongWayOut) t
+    module _ (i : stays t s ≡ false) {a : Answer} {u : Table} where
+      pub thread-exits : k .thread ≡ true → Makes (threadEnded t h x s) a u → Makes (threadExitedBy t h x s) a u
+      unfolding threadExitedBy
+      thread-exits g m = if-not _ t i (rw (← thread, g) m)
+
+      pub leader-exits : k .thread ≡ false → Makes (leaderExited t h x s) a u → Makes (threadExitedBy t h x s) a u
+      unfolding threadExitedBy
+      leader-exits g m = if-not _ t i (rw (← thread, g) m)
+
+    pub thread-stays : k .thread ≡ true → Makes (exitedBy t h x s) (Refused WrongWayOut) t
     unfolding exitedBy
-    system-stays f = if-so _ (rw (i, ← system, f))
+    thread-stays g = if-so _ (or-yes (stays t s) (sym thread ∙ g))
 
-    pub system-stays-too : k .system ≡ true → Makes (threadExitedBy t h x s) (Refused WrongWayOut) t
-    unfolding threadExitedBy
-    system-stays-too f = if-so _ (rw (i, ← system, f))
-
-    module _ (f : k .system ≡ false) where
-      pub thread-stays : k .thread ≡ true → Makes (exitedBy t h x s) (Refused WrongWayOut) t
-      unfolding exitedBy
-      thread-stays g = if-so _ (rw (i, ← system, f, ← thread, g))
-
-      pub leader-exits : {a : Answer} {u : Table} → k .thread ≡ false → Makes (leaderExited t h x s) a u → Makes (exitedBy t h x s) a u
-      unfolding exitedBy
-      leader-exits g m = if-not _ t (rw (i, ← system, f, ← thread, g)) m
-
-      pub thread-exits : {a : Answer} {u : Table} → k .thread ≡ true → Makes (threadEnded t h x s) a u → Makes (threadExitedBy t h x s) a u
-      unfolding threadExitedBy
-      thread-exits g m = if-not _ t (rw (i, ← system, f)) (rw (← thread, g) m)
-
-      pub leader-exits-too : {a : Answer} {u : Table} → k .thread ≡ false → Makes (leaderExited t h x s) a u → Makes (threadExitedBy t h x s) a u
-      unfolding threadExitedBy
-      leader-exits-too g m = if-not _ t (rw (i, ← system, f)) (rw (← thread, g) m)
+    pub leader-leaves : {a : Answer} {u : Table} → k .thread ≡ false → Makes (threadExitedBy t h x s) a u → Makes (exitedBy t h x s) a u
+    leader-leaves {a} {u} g m = subst (λ (o : Outcome). Makes o a u) (sym (exit-by-leader t h x s (sym thread ∙ g))) m
 
 module _ (t : Table) (h x : ℕ) where
   pub exit-no : (n : Refusal) → No n ≡ callerOf (t .core) h → Makes (step t (exit h x)) (Refused n) t

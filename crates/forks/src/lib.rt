@@ -28,23 +28,23 @@ use words::slot;
 use words::slot::StartWords;
 
 // ---- fork
-fn fork_in(t: &mut [u64; Table::WORDS], s: usize, g: usize, c: usize) -> Answer
-    requires { ⌜ (s < slotCount) × (g < groupCount) × (c < slotCount) × (length (tableOf (now t) .core .queue) < slotCount) ⌝ }
-    ensures { λ r. ⌜ Makes (forkedIn true s g c (tableOf (now (t .entry)))) r (tableOf (now (t .exit))) ⌝ }
+fn fork_in(t: &mut [u64; Table::WORDS], caller: usize, g: usize, child: usize) -> Answer
+    requires { ⌜ (caller < slotCount) × (g < groupCount) × (child < slotCount) × (length (tableOf (now t) .core .queue) < slotCount) ⌝ }
+    ensures { λ r. ⌜ Makes (forkedIn true caller g child (tableOf (now (t .entry)))) r (tableOf (now (t .exit))) ⌝ }
 {
     let n = book::pids(t);
-    let x = book::group_at(t, g);
+    let space = book::group_at(t, g);
     let new = scans::new_group(t);
-    let w = slot::start_at(t, s);
+    let w = slot::start_at(t, caller);
     let k = Kin {
         group: Member::In(new),
-        parent: Parent::Of(Slot(s)),
+        parent: Parent::Of(Slot(caller)),
         thread: false,
         system: false,
     };
     let b = StartWords {
         below: 0,
-        sp: stacks::user_sp(c),
+        sp: stacks::user_sp(child),
         entry: 0,
         top: 0,
         arg: 0,
@@ -52,106 +52,112 @@ fn fork_in(t: &mut [u64; Table::WORDS], s: usize, g: usize, c: usize) -> Answer
         name0: w.name0,
         name1: w.name1,
     };
-    taking::fill(t, c, n, k, b);
+    taking::fill(t, child, n, k, b);
     book::set_group(
         t,
         new,
         Group {
-            size: x.size,
+            size: space.size,
             count: 1,
         },
     );
-    moves::make_runnable(t, c);
+    moves::make_runnable(t, child);
     Answer::Made(Pid(n))
 }
 
-fn fork_by(t: &mut [u64; Table::WORDS], memory: bool, s: usize) -> Answer
-    requires { ⌜ (s < slotCount) × Sound (tableOf (now t)) ⌝ }
-    ensures { λ r. ⌜ Makes (forkedBy (tableOf (now (t .entry))) memory s) r (tableOf (now (t .exit))) ⌝ }
+fn fork_by(t: &mut [u64; Table::WORDS], memory: bool, caller: usize) -> Answer
+    requires { ⌜ (caller < slotCount) × Sound (tableOf (now t)) ⌝ }
+    ensures { λ r. ⌜ Makes (forkedBy (tableOf (now (t .entry))) memory caller) r (tableOf (now (t .exit))) ⌝ }
 {
-    let k = slot::kin_at(t, s);
+    let k = slot::kin_at(t, caller);
     let group = k.group;
     let Member::In(g) = group else {
         return Answer::Refused(Refusal::NoGroup);
     };
     match taking::alloc_proc(t) {
         Got::No(n) => Answer::Refused(n),
-        Got::Is(c) => {
+        Got::Is(child) => {
             if memory {
-                return fork_in(t, s, g, c);
+                return fork_in(t, caller, g, child);
             }
             Answer::Refused(Refusal::NoMemory)
         }
     }
 }
 
-pub fn fork(t: &mut [u64; Table::WORDS], h: usize, memory: bool) -> Answer
+pub fn fork(t: &mut [u64; Table::WORDS], hart: usize, memory: bool) -> Answer
     requires { ⌜ Sound (tableOf (now t)) ⌝ }
-    ensures { λ r. ⌜ Did (fork h memory) (tableOf (now (t .entry))) r (tableOf (now (t .exit))) ⌝ }
+    ensures { λ r. ⌜ Did (fork hart memory) (tableOf (now (t .entry))) r (tableOf (now (t .exit))) ⌝ }
 {
-    let c = taking::caller_on(t, h);
+    let c = taking::caller_on(t, hart);
     match c {
         Got::No(n) => Answer::Refused(n),
-        Got::Is(s) => fork_by(t, memory, s),
+        Got::Is(caller) => fork_by(t, memory, caller),
     }
 }
 
 // ---- threads
-fn wrong_ask(a: ThreadAsk, size: u64) -> bool
-    ensures { λ r. ⌜ r ≡ wrongAsk a size ⌝ }
+fn wrong_ask(ask: ThreadAsk, size: u64) -> bool
+    ensures { λ r. ⌜ r ≡ wrongAsk ask size ⌝ }
 {
-    if a.stack > u64::MAX - stacks::PAGE {
+    if ask.stack > u64::MAX - stacks::PAGE {
         return true;
     }
-    if a.stack % stacks::PAGE != 0 {
+    if ask.stack % stacks::PAGE != 0 {
         return true;
     }
-    if size < a.stack + stacks::PAGE {
+    if size < ask.stack + stacks::PAGE {
         return true;
     }
-    if a.entry >= size {
+    if ask.entry >= size {
         return true;
     }
-    if a.ret >= size {
+    if ask.ret >= size {
         return true;
     }
     false
 }
 
-fn unmapped(m: Mapped) -> bool
-    ensures { λ r. ⌜ r ≡ unmapped m ⌝ }
+fn unmapped(mapped: Mapped) -> bool
+    ensures { λ r. ⌜ r ≡ unmapped mapped ⌝ }
 {
-    if !m.entry {
+    if !mapped.entry {
         return true;
     }
-    if !m.ret {
+    if !mapped.ret {
         return true;
     }
-    if !m.stack {
+    if !mapped.stack {
         return true;
     }
-    !m.top
+    !mapped.top
 }
 
 // Whose child a thread of s is: a thread's is its leader's.
-fn leader_of(k: Kin, s: usize) -> Parent
-    requires { ⌜ (s < slotCount) × InTable (k .parent) ⌝ }
-    ensures { λ r. ⌜ (r ≡ cond (k .thread) (k .parent) (Of (slot s))) × InTable r ⌝ }
+fn leader_of(k: Kin, caller: usize) -> Parent
+    requires { ⌜ (caller < slotCount) × InTable (k .parent) ⌝ }
+    ensures { λ r. ⌜ (r ≡ cond (k .thread) (k .parent) (Of (slot caller))) × InTable r ⌝ }
 {
     if k.thread {
         let parent = k.parent;
         return parent;
     }
-    Parent::Of(Slot(s))
+    Parent::Of(Slot(caller))
 }
 
-fn thread_in(t: &mut [u64; Table::WORDS], a: ThreadAsk, s: usize, g: usize, c: usize) -> Answer
-    requires { ⌜ (s < slotCount) × (g < groupCount) × (c < slotCount) × (length (tableOf (now t) .core .queue) < slotCount) × (groupAt (tableOf (now t) .books) g .count < slotCount) × (a .stack + pageSize ≤ addressTop) ⌝ }
-    ensures { λ r. ⌜ Makes (threadedIn a s g c (tableOf (now (t .entry)))) r (tableOf (now (t .exit))) ⌝ }
+fn thread_in(
+    t: &mut [u64; Table::WORDS],
+    ask: ThreadAsk,
+    caller: usize,
+    g: usize,
+    i: usize,
+) -> Answer
+    requires { ⌜ (caller < slotCount) × (g < groupCount) × (i < slotCount) × (length (tableOf (now t) .core .queue) < slotCount) × (groupAt (tableOf (now t) .books) g .count < slotCount) × (ask .stack + pageSize ≤ addressTop) ⌝ }
+    ensures { λ r. ⌜ Makes (threadedIn ask caller g i (tableOf (now (t .entry)))) r (tableOf (now (t .exit))) ⌝ }
 {
     let n = book::pids(t);
-    let w = slot::start_at(t, s);
-    let parent = leader_of(slot::kin_at(t, s), s);
+    let w = slot::start_at(t, caller);
+    let parent = leader_of(slot::kin_at(t, caller), caller);
     let k = Kin {
         group: Member::In(g),
         parent,
@@ -159,50 +165,55 @@ fn thread_in(t: &mut [u64; Table::WORDS], a: ThreadAsk, s: usize, g: usize, c: u
         system: false,
     };
     let b = StartWords {
-        below: stacks::below(c),
-        sp: stacks::user_sp(c),
-        entry: a.entry,
-        top: a.stack + stacks::PAGE,
-        arg: a.arg,
-        ret: a.ret,
+        below: stacks::below(i),
+        sp: stacks::user_sp(i),
+        entry: ask.entry,
+        top: ask.stack + stacks::PAGE,
+        arg: ask.arg,
+        ret: ask.ret,
         name0: w.name0,
         name1: w.name1,
     };
-    taking::fill(t, c, n, k, b);
+    taking::fill(t, i, n, k, b);
     taking::join_group(t, g);
-    moves::make_runnable(t, c);
+    moves::make_runnable(t, i);
     Answer::Made(Pid(n))
 }
 
-fn thread_by(t: &mut [u64; Table::WORDS], a: ThreadAsk, m: Mapped, s: usize) -> Answer
-    requires { ⌜ (s < slotCount) × Sound (tableOf (now t)) ⌝ }
-    ensures { λ r. ⌜ Makes (threadedBy (tableOf (now (t .entry))) a m s) r (tableOf (now (t .exit))) ⌝ }
+fn thread_by(t: &mut [u64; Table::WORDS], ask: ThreadAsk, mapped: Mapped, caller: usize) -> Answer
+    requires { ⌜ (caller < slotCount) × Sound (tableOf (now t)) ⌝ }
+    ensures { λ r. ⌜ Makes (threadedBy (tableOf (now (t .entry))) ask mapped caller) r (tableOf (now (t .exit))) ⌝ }
 {
-    let k = slot::kin_at(t, s);
+    let k = slot::kin_at(t, caller);
     let group = k.group;
     let Member::In(g) = group else {
         return Answer::Refused(Refusal::NoGroup);
     };
-    let x = book::group_at(t, g);
-    if wrong_ask(a, x.size) {
+    let space = book::group_at(t, g);
+    if wrong_ask(ask, space.size) {
         return Answer::Refused(Refusal::BadAddress);
     }
-    if unmapped(m) {
+    if unmapped(mapped) {
         return Answer::Refused(Refusal::Unmapped);
     }
     match taking::alloc_proc(t) {
         Got::No(n) => Answer::Refused(n),
-        Got::Is(c) => thread_in(t, a, s, g, c),
+        Got::Is(i) => thread_in(t, ask, caller, g, i),
     }
 }
 
-pub fn create_user_thread(t: &mut [u64; Table::WORDS], h: usize, a: ThreadAsk, m: Mapped) -> Answer
+pub fn create_user_thread(
+    t: &mut [u64; Table::WORDS],
+    hart: usize,
+    ask: ThreadAsk,
+    mapped: Mapped,
+) -> Answer
     requires { ⌜ Sound (tableOf (now t)) ⌝ }
-    ensures { λ r. ⌜ Did (thread h a m) (tableOf (now (t .entry))) r (tableOf (now (t .exit))) ⌝ }
+    ensures { λ r. ⌜ Did (thread hart ask mapped) (tableOf (now (t .entry))) r (tableOf (now (t .exit))) ⌝ }
 {
-    let c = taking::caller_on(t, h);
+    let c = taking::caller_on(t, hart);
     match c {
         Got::No(n) => Answer::Refused(n),
-        Got::Is(s) => thread_by(t, a, m, s),
+        Got::Is(caller) => thread_by(t, ask, mapped, caller),
     }
 }

@@ -69,17 +69,17 @@ fn no_memory(count: i64, memory: bool) -> bool
     false
 }
 
-fn grow_by(t: &mut [u64; Table::WORDS], count: i64, memory: bool, s: usize) -> Answer
-    requires { ⌜ (s < slotCount) × Sound (tableOf (now t)) ⌝ }
-    ensures { λ r. ⌜ Makes (grownBy (tableOf (now (t .entry))) count memory s) r (tableOf (now (t .exit))) ⌝ }
+fn grow_by(t: &mut [u64; Table::WORDS], count: i64, memory: bool, caller: usize) -> Answer
+    requires { ⌜ (caller < slotCount) × Sound (tableOf (now t)) ⌝ }
+    ensures { λ r. ⌜ Makes (grownBy (tableOf (now (t .entry))) count memory caller) r (tableOf (now (t .exit))) ⌝ }
 {
-    let k = slot::kin_at(t, s);
+    let k = slot::kin_at(t, caller);
     let group = k.group;
     let Member::In(g) = group else {
         return Answer::Refused(Refusal::NoGroup);
     };
-    let x = book::group_at(t, g);
-    let Size::To(n) = new_size(x.size, count) else {
+    let space = book::group_at(t, g);
+    let Size::To(n) = new_size(space.size, count) else {
         return Answer::Refused(Refusal::SizeOutOfLimits);
     };
     if no_memory(count, memory) {
@@ -90,19 +90,19 @@ fn grow_by(t: &mut [u64; Table::WORDS], count: i64, memory: bool, s: usize) -> A
         g,
         Group {
             size: n,
-            count: x.count,
+            count: space.count,
         },
     );
     Answer::Done
 }
 
-pub fn grow_proc(t: &mut [u64; Table::WORDS], h: usize, count: i64, memory: bool) -> Answer
+pub fn grow_proc(t: &mut [u64; Table::WORDS], hart: usize, count: i64, memory: bool) -> Answer
     requires { ⌜ Sound (tableOf (now t)) ⌝ }
-    ensures { λ r. ⌜ Did (grow h count memory) (tableOf (now (t .entry))) r (tableOf (now (t .exit))) ⌝ }
+    ensures { λ r. ⌜ Did (grow hart count memory) (tableOf (now (t .entry))) r (tableOf (now (t .exit))) ⌝ }
 {
-    let c = taking::caller_on(t, h);
+    let c = taking::caller_on(t, hart);
     match c {
         Got::No(n) => Answer::Refused(n),
-        Got::Is(s) => grow_by(t, count, memory, s),
+        Got::Is(caller) => grow_by(t, count, memory, caller),
     }
 }

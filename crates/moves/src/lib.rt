@@ -16,23 +16,23 @@ use words::queue;
 use words::slot;
 
 // The channel that those who wait for slot s sleep on.
-pub fn own_channel(s: usize) -> u64
-    requires { ⌜ s < slotCount ⌝ }
-    ensures { λ r. ⌜ r ≡ ownChannel s ⌝ }
+pub fn own_channel(i: usize) -> u64
+    requires { ⌜ i < slotCount ⌝ }
+    ensures { λ r. ⌜ r ≡ ownChannel i ⌝ }
 {
-    (s as u64) + 1
+    (i as u64) + 1
 }
 
 // Publish: RUNNABLE, queued, appended to the tail.
-pub fn make_runnable(t: &mut [u64; Table::WORDS], s: usize)
-    requires { ⌜ (s < slotCount) × (length (tableOf (now t) .core .queue) < slotCount) ⌝ }
-    ensures { λ _. ⌜ tableOf (now (t .exit)) ≡ onCore (publish s) (tableOf (now (t .entry))) ⌝ }
+pub fn make_runnable(t: &mut [u64; Table::WORDS], i: usize)
+    requires { ⌜ (i < slotCount) × (length (tableOf (now t) .core .queue) < slotCount) ⌝ }
+    ensures { λ _. ⌜ tableOf (now (t .exit)) ≡ onCore (publish i) (tableOf (now (t .entry))) ⌝ }
 {
-    let m = slot::meta_at(t, s);
+    let m = slot::meta_at(t, i);
     let pid = m.pid;
     slot::set_meta(
         t,
-        s,
+        i,
         ProcMeta {
             state: ProcState::RUNNABLE,
             channel: m.channel,
@@ -42,19 +42,19 @@ pub fn make_runnable(t: &mut [u64; Table::WORDS], s: usize)
             queued: true,
         },
     );
-    queue::push(t, s);
+    queue::push(t, i);
 }
 
 // Slot s, which just left the queue's head, runs on hart h.
-pub fn run_on(t: &mut [u64; Table::WORDS], h: usize, s: usize)
-    requires { ⌜ (h < hartCount) × (s < slotCount) ⌝ }
-    ensures { λ _. ⌜ tableOf (now (t .exit)) ≡ onCore (λ c. hand h s (c .queue) c) (tableOf (now (t .entry))) ⌝ }
+pub fn run_on(t: &mut [u64; Table::WORDS], hart: usize, i: usize)
+    requires { ⌜ (hart < hartCount) × (i < slotCount) ⌝ }
+    ensures { λ _. ⌜ tableOf (now (t .exit)) ≡ onCore (λ c. hand hart i (c .queue) c) (tableOf (now (t .entry))) ⌝ }
 {
-    let m = slot::meta_at(t, s);
+    let m = slot::meta_at(t, i);
     let pid = m.pid;
     slot::set_meta(
         t,
-        s,
+        i,
         ProcMeta {
             state: ProcState::RUNNING,
             channel: 0,
@@ -64,34 +64,34 @@ pub fn run_on(t: &mut [u64; Table::WORDS], h: usize, s: usize)
             queued: false,
         },
     );
-    book::set_hart(t, h, Parent::Of(Slot(s)));
+    book::set_hart(t, hart, Parent::Of(Slot(i)));
 }
 
-pub fn idle(t: &mut [u64; Table::WORDS], h: usize)
-    requires { ⌜ h < hartCount ⌝ }
-    ensures { λ _. ⌜ tableOf (now (t .exit)) ≡ onCore (idle h) (tableOf (now (t .entry))) ⌝ }
+pub fn idle(t: &mut [u64; Table::WORDS], hart: usize)
+    requires { ⌜ hart < hartCount ⌝ }
+    ensures { λ _. ⌜ tableOf (now (t .exit)) ≡ onCore (idle hart) (tableOf (now (t .entry))) ⌝ }
 {
-    book::set_hart(t, h, Parent::Nobody);
+    book::set_hart(t, hart, Parent::Nobody);
 }
 
-pub fn yield_on(t: &mut [u64; Table::WORDS], h: usize, s: usize)
-    requires { ⌜ (h < hartCount) × (s < slotCount) × (length (tableOf (now t) .core .queue) < slotCount) ⌝ }
-    ensures { λ _. ⌜ tableOf (now (t .exit)) ≡ onCore (yieldOn h s) (tableOf (now (t .entry))) ⌝ }
+pub fn yield_on(t: &mut [u64; Table::WORDS], hart: usize, caller: usize)
+    requires { ⌜ (hart < hartCount) × (caller < slotCount) × (length (tableOf (now t) .core .queue) < slotCount) ⌝ }
+    ensures { λ _. ⌜ tableOf (now (t .exit)) ≡ onCore (yieldOn hart caller) (tableOf (now (t .entry))) ⌝ }
 {
-    idle(t, h);
-    make_runnable(t, s);
+    idle(t, hart);
+    make_runnable(t, caller);
 }
 
-pub fn sleep_on(t: &mut [u64; Table::WORDS], h: usize, s: usize, channel: u64)
-    requires { ⌜ (h < hartCount) × (s < slotCount) ⌝ }
-    ensures { λ _. ⌜ tableOf (now (t .exit)) ≡ onCore (sleepOn h s channel) (tableOf (now (t .entry))) ⌝ }
+pub fn sleep_on(t: &mut [u64; Table::WORDS], hart: usize, caller: usize, channel: u64)
+    requires { ⌜ (hart < hartCount) × (caller < slotCount) ⌝ }
+    ensures { λ _. ⌜ tableOf (now (t .exit)) ≡ onCore (sleepOn hart caller channel) (tableOf (now (t .entry))) ⌝ }
 {
-    idle(t, h);
-    let m = slot::meta_at(t, s);
+    idle(t, hart);
+    let m = slot::meta_at(t, caller);
     let pid = m.pid;
     slot::set_meta(
         t,
-        s,
+        caller,
         ProcMeta {
             state: ProcState::SLEEPING,
             channel,
@@ -103,16 +103,16 @@ pub fn sleep_on(t: &mut [u64; Table::WORDS], h: usize, s: usize, channel: u64)
     );
 }
 
-pub fn zombie_on(t: &mut [u64; Table::WORDS], h: usize, s: usize, status: u64)
-    requires { ⌜ (h < hartCount) × (s < slotCount) ⌝ }
-    ensures { λ _. ⌜ tableOf (now (t .exit)) ≡ onCore (zombieOn h s status) (tableOf (now (t .entry))) ⌝ }
+pub fn zombie_on(t: &mut [u64; Table::WORDS], hart: usize, caller: usize, status: u64)
+    requires { ⌜ (hart < hartCount) × (caller < slotCount) ⌝ }
+    ensures { λ _. ⌜ tableOf (now (t .exit)) ≡ onCore (zombieOn hart caller status) (tableOf (now (t .entry))) ⌝ }
 {
-    idle(t, h);
-    let m = slot::meta_at(t, s);
+    idle(t, hart);
+    let m = slot::meta_at(t, caller);
     let pid = m.pid;
     slot::set_meta(
         t,
-        s,
+        caller,
         ProcMeta {
             state: ProcState::ZOMBIE,
             channel: m.channel,

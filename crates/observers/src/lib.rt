@@ -112,13 +112,13 @@ pub fn is_system_thread(t: &[u64; Table::WORDS], s: Slot) -> bool
 }
 
 // ---- of the table
-pub fn on_hart(t: &[u64; Table::WORDS], h: usize) -> Parent
-    ensures { λ r. ⌜ r ≡ hartAt (tableOf (now (t .entry)) .core) h ⌝ }
+pub fn on_hart(t: &[u64; Table::WORDS], hart: usize) -> Parent
+    ensures { λ r. ⌜ r ≡ hartAt (tableOf (now (t .entry)) .core) hart ⌝ }
 {
-    if h >= Table::HARTS {
+    if hart >= Table::HARTS {
         return Parent::Nobody;
     }
-    book::hart_at(t, h)
+    book::hart_at(t, hart)
 }
 
 pub fn init(t: &[u64; Table::WORDS]) -> Parent
@@ -139,8 +139,8 @@ pub fn group_size(t: &[u64; Table::WORDS], g: usize) -> u64
     if g >= Table::SLOTS {
         return 0;
     }
-    let x = book::group_at(t, g);
-    x.size
+    let space = book::group_at(t, g);
+    space.size
 }
 
 pub fn queue_len(t: &[u64; Table::WORDS]) -> usize

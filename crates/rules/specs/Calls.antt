@@ -1,4 +1,7 @@
 -- The calls, in document 01's order: for each, its refusals in order, and what it does when granted. First what they share.
+-- A call is named by what it has done, as `forked`. What is left of it once something is known has a suffix that says what: By, the caller s;
+-- In, the slot that was taken, on a table with the pid spent; At, where init is; To, the thread or the size that was found; For and Past, what the scan
+-- for a ZOMBIE child or for a live thread found. Letters: t a table, c a core, h a hart, s the caller, i another slot, g a group, x a status, w a wish.
 use Prim.Native.Nat.{ℕ, _+_, _-_, _%_, _^_}
 use mathlib.Core.Bool.{Bool, true, false, not, cond, _&&_, _||_}
 use mathlib.Core.List.{List, [], _∷_, _++_}
@@ -281,10 +284,12 @@ leaderExited t h x s =
     let u = reapThreads m t in
     exitedPast u h x s (lowest (threadOf m) (u .core .slots))
 
+-- init and system threads leave in neither way
+abbrev pub stays : Table → ℕ → Bool
+stays t s = isSlot s (t .books .init) || at (t .core) s .kin .system
+
 unfoldable pub exitedBy : Table → ℕ → ℕ → ℕ → Outcome
-exitedBy t h x s =
-    refuseIf (isSlot s (t .books .init) || at (t .core) s .kin .system || at (t .core) s .kin .thread) WrongWayOut t
-    (leaderExited t h x s)
+exitedBy t h x s = refuseIf (stays t s || at (t .core) s .kin .thread) WrongWayOut t (leaderExited t h x s)
 
 unfoldable pub exited : Table → ℕ → ℕ → Outcome
 exited t h x = onHart t h (exitedBy t h x)
@@ -292,7 +297,7 @@ exited t h x = onHart t h (exitedBy t h x)
 -- thread exit by a non-thread is the same as exit
 unfoldable pub threadExitedBy : Table → ℕ → ℕ → ℕ → Outcome
 threadExitedBy t h x s =
-    refuseIf (isSlot s (t .books .init) || at (t .core) s .kin .system) WrongWayOut t
+    refuseIf (stays t s) WrongWayOut t
     (cond (at (t .core) s .kin .thread) (threadEnded t h x s) (leaderExited t h x s))
 
 unfoldable pub threadExited : Table → ℕ → ℕ → Outcome

@@ -19,51 +19,51 @@ use words::queue;
 pub const FIRST_DEVICE: u64 = (Table::SLOTS as u64) + 1;
 
 // Dispatch: the head leaves the queue and runs on hart h.
-pub fn dequeue_runnable(t: &mut [u64; Table::WORDS], h: usize) -> Answer
+pub fn dequeue_runnable(t: &mut [u64; Table::WORDS], hart: usize) -> Answer
     requires { ⌜ Sound (tableOf (now t)) ⌝ }
-    ensures { λ r. ⌜ Did (dispatch h) (tableOf (now (t .entry))) r (tableOf (now (t .exit))) ⌝ }
+    ensures { λ r. ⌜ Did (dispatch hart) (tableOf (now (t .entry))) r (tableOf (now (t .exit))) ⌝ }
 {
-    if h >= Table::HARTS {
+    if hart >= Table::HARTS {
         return Answer::Refused(Refusal::NoSuchHart);
     }
-    let p = book::hart_at(t, h);
+    let p = book::hart_at(t, hart);
     if let Parent::Of(_) = p {
         return Answer::Refused(Refusal::HartBusy);
     }
     if queue::waiting(t) == 0 {
         return Answer::Refused(Refusal::QueueEmpty);
     }
-    let s = queue::pop(t);
-    moves::run_on(t, h, s);
-    Answer::Handed(Slot(s))
+    let i = queue::pop(t);
+    moves::run_on(t, hart, i);
+    Answer::Handed(Slot(i))
 }
 
-pub fn yielding(t: &mut [u64; Table::WORDS], h: usize) -> Answer
+pub fn yielding(t: &mut [u64; Table::WORDS], hart: usize) -> Answer
     requires { ⌜ Sound (tableOf (now t)) ⌝ }
-    ensures { λ r. ⌜ Did (yield h) (tableOf (now (t .entry))) r (tableOf (now (t .exit))) ⌝ }
+    ensures { λ r. ⌜ Did (yield hart) (tableOf (now (t .entry))) r (tableOf (now (t .exit))) ⌝ }
 {
-    let c = taking::caller_on(t, h);
+    let c = taking::caller_on(t, hart);
     match c {
         Got::No(n) => Answer::Refused(n),
-        Got::Is(s) => {
-            moves::yield_on(t, h, s);
+        Got::Is(caller) => {
+            moves::yield_on(t, hart, caller);
             Answer::Done
         }
     }
 }
 
-pub fn sleep(t: &mut [u64; Table::WORDS], h: usize, channel: u64) -> Answer
+pub fn sleep(t: &mut [u64; Table::WORDS], hart: usize, channel: u64) -> Answer
     requires { ⌜ Sound (tableOf (now t)) ⌝ }
-    ensures { λ r. ⌜ Did (sleep h channel) (tableOf (now (t .entry))) r (tableOf (now (t .exit))) ⌝ }
+    ensures { λ r. ⌜ Did (sleep hart channel) (tableOf (now (t .entry))) r (tableOf (now (t .exit))) ⌝ }
 {
-    let c = taking::caller_on(t, h);
+    let c = taking::caller_on(t, hart);
     match c {
         Got::No(n) => Answer::Refused(n),
-        Got::Is(s) => {
+        Got::Is(caller) => {
             if channel < FIRST_DEVICE {
                 return Answer::Refused(Refusal::NotADevice);
             }
-            moves::sleep_on(t, h, s, channel);
+            moves::sleep_on(t, hart, caller, channel);
             Answer::Done
         }
     }
@@ -80,11 +80,11 @@ pub fn wake_up(t: &mut [u64; Table::WORDS], channel: u64) -> Answer
     Answer::Done
 }
 
-pub fn kill(t: &mut [u64; Table::WORDS], p: Pid) -> Answer
+pub fn kill(t: &mut [u64; Table::WORDS], pid: Pid) -> Answer
     requires { ⌜ Sound (tableOf (now t)) ⌝ }
-    ensures { λ r. ⌜ Did (kill p) (tableOf (now (t .entry))) r (tableOf (now (t .exit))) ⌝ }
+    ensures { λ r. ⌜ Did (kill pid) (tableOf (now (t .entry))) r (tableOf (now (t .exit))) ⌝ }
 {
-    let f = scans::find(t, Test::HasPid(p));
+    let f = scans::find(t, Test::HasPid(pid));
     match f {
         Found::Nothing => Answer::Refused(Refusal::NoneSuch),
         Found::At(i) => {

@@ -32,17 +32,17 @@ pub enum Got {
 }
 
 // The slot that the hart runs.
-pub fn caller_on(t: &[u64; Table::WORDS], h: usize) -> Got
-    ensures { λ r. ⌜ (r ≡ callerOf (tableOf (now (t .entry)) .core) h) × InHart h r ⌝ }
+pub fn caller_on(t: &[u64; Table::WORDS], hart: usize) -> Got
+    ensures { λ r. ⌜ (r ≡ callerOf (tableOf (now (t .entry)) .core) hart) × InHart hart r ⌝ }
 {
-    if h >= Table::HARTS {
+    if hart >= Table::HARTS {
         return Got::No(Refusal::NoSuchHart);
     }
-    let p = book::hart_at(t, h);
-    let Parent::Of(s) = p else {
+    let p = book::hart_at(t, hart);
+    let Parent::Of(caller) = p else {
         return Got::No(Refusal::HartIdle);
     };
-    Got::Is(s.0)
+    Got::Is(caller.0)
 }
 
 // The pid counter goes up first, even if no slot is UNUSED; the lowest UNUSED slot wins.
@@ -54,29 +54,29 @@ pub fn alloc_proc(t: &mut [u64; Table::WORDS]) -> Got
         return Got::No(Refusal::PidsSpent);
     }
     book::set_pids(t, n + 1);
-    let Found::At(s) = scans::find(t, Test::Unused) else {
+    let Found::At(i) = scans::find(t, Test::Unused) else {
         return Got::No(Refusal::TableFull);
     };
-    Got::Is(s)
+    Got::Is(i)
 }
 
 // A slot's three parts, all set.
-fn set_slot(t: &mut [u64; Table::WORDS], s: usize, m: ProcMeta, k: Kin, b: StartWords)
-    requires { ⌜ (s < slotCount) × InGroups (k .group) × InTable (k .parent) ⌝ }
-    ensures { λ _. ⌜ tableOf (now (t .exit)) ≡ onCore (fill s (slotOf m k (startOf b))) (tableOf (now (t .entry))) ⌝ }
+fn set_slot(t: &mut [u64; Table::WORDS], i: usize, m: ProcMeta, k: Kin, b: StartWords)
+    requires { ⌜ (i < slotCount) × InGroups (k .group) × InTable (k .parent) ⌝ }
+    ensures { λ _. ⌜ tableOf (now (t .exit)) ≡ onCore (fill i (slotOf m k (startOf b))) (tableOf (now (t .entry))) ⌝ }
 {
-    slot::set_meta(t, s, m);
-    slot::set_kin(t, s, k);
-    slot::set_start(t, s, b);
+    slot::set_meta(t, i, m);
+    slot::set_kin(t, i, k);
+    slot::set_start(t, i, b);
 }
 
-pub fn fill(t: &mut [u64; Table::WORDS], s: usize, n: u64, k: Kin, b: StartWords)
-    requires { ⌜ (s < slotCount) × InGroups (k .group) × InTable (k .parent) ⌝ }
-    ensures { λ _. ⌜ tableOf (now (t .exit)) ≡ onCore (fill s (taken n k (startOf b))) (tableOf (now (t .entry))) ⌝ }
+pub fn fill(t: &mut [u64; Table::WORDS], i: usize, n: u64, k: Kin, b: StartWords)
+    requires { ⌜ (i < slotCount) × InGroups (k .group) × InTable (k .parent) ⌝ }
+    ensures { λ _. ⌜ tableOf (now (t .exit)) ≡ onCore (fill i (taken n k (startOf b))) (tableOf (now (t .entry))) ⌝ }
 {
     set_slot(
         t,
-        s,
+        i,
         ProcMeta {
             state: ProcState::ALLOCATED,
             channel: 0,
@@ -94,13 +94,13 @@ pub fn join_group(t: &mut [u64; Table::WORDS], g: usize)
     requires { ⌜ (g < groupCount) × (groupAt (tableOf (now t) .books) g .count < slotCount) ⌝ }
     ensures { λ _. ⌜ tableOf (now (t .exit)) ≡ onBooks (joinGroup g) (tableOf (now (t .entry))) ⌝ }
 {
-    let x = book::group_at(t, g);
+    let space = book::group_at(t, g);
     book::set_group(
         t,
         g,
         Group {
-            size: x.size,
-            count: x.count + 1,
+            size: space.size,
+            count: space.count + 1,
         },
     );
 }
@@ -109,16 +109,16 @@ fn leave(t: &mut [u64; Table::WORDS], g: usize)
     requires { ⌜ g < groupCount ⌝ }
     ensures { λ _. ⌜ tableOf (now (t .exit)) ≡ onBooks (setGroup g (less (groupAt (tableOf (now (t .entry)) .books) g))) (tableOf (now (t .entry))) ⌝ }
 {
-    let x = book::group_at(t, g);
-    if x.count <= 1 {
+    let space = book::group_at(t, g);
+    if space.count <= 1 {
         book::set_group(t, g, Group { size: 0, count: 0 });
     } else {
         book::set_group(
             t,
             g,
             Group {
-                size: x.size,
-                count: x.count - 1,
+                size: space.size,
+                count: space.count - 1,
             },
         );
     }

@@ -20,10 +20,10 @@ use taking::Got;
 use words::Table;
 use words::slot;
 
-fn unwritable(w: Wish) -> bool
-    ensures { λ r. ⌜ r ≡ unwritable w ⌝ }
+fn unwritable(wish: Wish) -> bool
+    ensures { λ r. ⌜ r ≡ unwritable wish ⌝ }
 {
-    match w {
+    match wish {
         Wish::NotWanted => false,
         Wish::Writable => false,
         Wish::Unwritable => true,
@@ -31,10 +31,10 @@ fn unwritable(w: Wish) -> bool
 }
 
 // The low 32 bits, read as a two's complement number.
-fn signed(x: u64) -> i32
-    ensures { λ r. ⌜ r ≡ signed x ⌝ }
+fn signed(status: u64) -> i32
+    ensures { λ r. ⌜ r ≡ signed status ⌝ }
 {
-    let low = x % 4294967296;
+    let low = status % 4294967296;
     if low < 2147483648 {
         return low as i32;
     }
@@ -42,11 +42,17 @@ fn signed(x: u64) -> i32
 }
 
 // ---- wait
-fn reap_child(t: &mut [u64; Table::WORDS], h: usize, w: Wish, s: usize, i: usize) -> Answer
+fn reap_child(
+    t: &mut [u64; Table::WORDS],
+    hart: usize,
+    wish: Wish,
+    caller: usize,
+    i: usize,
+) -> Answer
     requires { ⌜ i < slotCount ⌝ }
-    ensures { λ r. ⌜ Makes (waitedFor (tableOf (now (t .entry))) h w s (some i)) r (tableOf (now (t .exit))) ⌝ }
+    ensures { λ r. ⌜ Makes (waitedFor (tableOf (now (t .entry))) hart wish caller (some i)) r (tableOf (now (t .exit))) ⌝ }
 {
-    if unwritable(w) {
+    if unwritable(wish) {
         return Answer::Refused(Refusal::StatusUnwritable);
     }
     let m = slot::meta_at(t, i);
@@ -55,82 +61,82 @@ fn reap_child(t: &mut [u64; Table::WORDS], h: usize, w: Wish, s: usize, i: usize
     Answer::Reaped(pid, m.xstate)
 }
 
-fn await_child(t: &mut [u64; Table::WORDS], h: usize, w: Wish, s: usize) -> Answer
-    requires { ⌜ (h < hartCount) × (s < slotCount) ⌝ }
-    ensures { λ r. ⌜ Makes (waitedFor (tableOf (now (t .entry))) h w s none) r (tableOf (now (t .exit))) ⌝ }
+fn await_child(t: &mut [u64; Table::WORDS], hart: usize, wish: Wish, caller: usize) -> Answer
+    requires { ⌜ (hart < hartCount) × (caller < slotCount) ⌝ }
+    ensures { λ r. ⌜ Makes (waitedFor (tableOf (now (t .entry))) hart wish caller none) r (tableOf (now (t .exit))) ⌝ }
 {
-    let m = slot::meta_at(t, s);
+    let m = slot::meta_at(t, caller);
     if m.killed {
         return Answer::Refused(Refusal::NoneSuch);
     }
-    let Found::At(_) = scans::find(t, Test::ChildOf(s)) else {
+    let Found::At(_) = scans::find(t, Test::ChildOf(caller)) else {
         return Answer::Refused(Refusal::NoneSuch);
     };
-    moves::sleep_on(t, h, s, moves::own_channel(s));
+    moves::sleep_on(t, hart, caller, moves::own_channel(caller));
     Answer::Blocked
 }
 
 // `killed` is looked at only after the scan.
-pub fn wait(t: &mut [u64; Table::WORDS], h: usize, w: Wish) -> Answer
+pub fn wait(t: &mut [u64; Table::WORDS], hart: usize, wish: Wish) -> Answer
     requires { ⌜ Sound (tableOf (now t)) ⌝ }
-    ensures { λ r. ⌜ Did (wait h w) (tableOf (now (t .entry))) r (tableOf (now (t .exit))) ⌝ }
+    ensures { λ r. ⌜ Did (wait hart wish) (tableOf (now (t .entry))) r (tableOf (now (t .exit))) ⌝ }
 {
-    let c = taking::caller_on(t, h);
+    let c = taking::caller_on(t, hart);
     match c {
         Got::No(n) => Answer::Refused(n),
-        Got::Is(s) => {
-            match scans::find(t, Test::ZombieChildOf(s)) {
-                Found::At(i) => reap_child(t, h, w, s, i),
-                Found::Nothing => await_child(t, h, w, s),
+        Got::Is(caller) => {
+            match scans::find(t, Test::ZombieChildOf(caller)) {
+                Found::At(i) => reap_child(t, hart, wish, caller, i),
+                Found::Nothing => await_child(t, hart, wish, caller),
             }
         }
     }
 }
 
 // ---- join
-fn join_to(t: &mut [u64; Table::WORDS], h: usize, w: Wish, s: usize, i: usize) -> Answer
-    requires { ⌜ (h < hartCount) × (s < slotCount) × (i < slotCount) ⌝ }
-    ensures { λ r. ⌜ Makes (joinedTo (tableOf (now (t .entry))) h w s i) r (tableOf (now (t .exit))) ⌝ }
+fn join_to(t: &mut [u64; Table::WORDS], hart: usize, wish: Wish, caller: usize, i: usize) -> Answer
+    requires { ⌜ (hart < hartCount) × (caller < slotCount) × (i < slotCount) ⌝ }
+    ensures { λ r. ⌜ Makes (joinedTo (tableOf (now (t .entry))) hart wish caller i) r (tableOf (now (t .exit))) ⌝ }
 {
     if scans::is(t, i, ProcState::ZOMBIE) {
-        if unwritable(w) {
+        if unwritable(wish) {
             return Answer::Refused(Refusal::StatusUnwritable);
         }
         let m = slot::meta_at(t, i);
         taking::free_proc(t, i);
         return Answer::Joined(signed(m.xstate));
     }
-    moves::sleep_on(t, h, s, moves::own_channel(i));
+    moves::sleep_on(t, hart, caller, moves::own_channel(i));
     Answer::Blocked
 }
 
-fn join_by(t: &mut [u64; Table::WORDS], h: usize, p: Pid, w: Wish, s: usize) -> Answer
-    requires { ⌜ (h < hartCount) × (s < slotCount) ⌝ }
-    ensures { λ r. ⌜ Makes (joinedBy (tableOf (now (t .entry))) h p w s) r (tableOf (now (t .exit))) ⌝ }
+fn join_by(t: &mut [u64; Table::WORDS], hart: usize, pid: Pid, wish: Wish, caller: usize) -> Answer
+    requires { ⌜ (hart < hartCount) × (caller < slotCount) ⌝ }
+    ensures { λ r. ⌜ Makes (joinedBy (tableOf (now (t .entry))) hart pid wish caller) r (tableOf (now (t .exit))) ⌝ }
 {
-    let k = slot::kin_at(t, s);
+    let k = slot::kin_at(t, caller);
     let group = k.group;
     let Member::In(g) = group else {
         return Answer::Refused(Refusal::NoGroup);
     };
-    let m = slot::meta_at(t, s);
+    let m = slot::meta_at(t, caller);
     let own = m.pid;
-    if own.0 == p.0 {
+    if own.0 == pid.0 {
         return Answer::Refused(Refusal::NoneSuch);
     }
-    match scans::find(t, Test::ThreadNamed(p, Member::In(g))) {
+    match scans::find(t, Test::ThreadNamed(pid, Member::In(g))) {
         Found::Nothing => Answer::Refused(Refusal::NoneSuch),
-        Found::At(i) => join_to(t, h, w, s, i),
+        Found::At(i) => join_to(t, hart, wish, caller, i),
     }
 }
 
-pub fn join_user_thread(t: &mut [u64; Table::WORDS], h: usize, p: Pid, w: Wish) -> Answer
+pub fn join_user_thread(t: &mut [u64; Table::WORDS], hart: usize, pid: Pid, wish: Wish) -> Answer
     requires { ⌜ Sound (tableOf (now t)) ⌝ }
-    ensures { λ r. ⌜ Did (join h p w) (tableOf (now (t .entry))) r (tableOf (now (t .exit))) ⌝ }
+    ensures { λ r. ⌜ Did (join hart pid wish) (tableOf (now (t .entry))) r (tableOf (now (t .exit))) ⌝ }
 {
-    let c = taking::caller_on(t, h);
+    let c = taking::caller_on(t, hart);
     match c {
         Got::No(n) => Answer::Refused(n),
-        Got::Is(s) => join_by(t, h, p, w, s),
+        Got::Is(caller) => join_by(t, hart, pid, wish, caller),
     }
 }

@@ -46,10 +46,10 @@ pub fn wake_of(t: &mut [u64; Table::WORDS], p: Parent)
     requires { ⌜ InTable p × Queued (tableOf (now t) .core) ⌝ }
     ensures { λ _. ⌜ tableOf (now (t .exit)) ≡ onCore (wakeOf p) (tableOf (now (t .entry))) ⌝ }
 {
-    let Parent::Of(s) = p else {
+    let Parent::Of(i) = p else {
         return;
     };
-    wake_up(t, moves::own_channel(s.0));
+    wake_up(t, moves::own_channel(i.0));
 }
 
 // Killed, and published if SLEEPING.
@@ -97,31 +97,31 @@ fn adopt(t: &mut [u64; Table::WORDS], init: Parent, i: usize)
     wake_of(t, init);
 }
 
-fn hand_over(t: &mut [u64; Table::WORDS], init: Parent, s: usize, i: usize)
+fn hand_over(t: &mut [u64; Table::WORDS], init: Parent, caller: usize, i: usize)
     requires { ⌜ (i < slotCount) × InTable init × Queued (tableOf (now t) .core) ⌝ }
-    ensures { λ _. ⌜ tableOf (now (t .exit)) ≡ onCore (handOver init s i) (tableOf (now (t .entry))) ⌝ }
+    ensures { λ _. ⌜ tableOf (now (t .exit)) ≡ onCore (handOver init caller i) (tableOf (now (t .entry))) ⌝ }
 {
     let k = slot::kin_at(t, i);
     let parent = k.parent;
     let Parent::Of(p) = parent else {
         return;
     };
-    if s == p.0 {
+    if caller == p.0 {
         adopt(t, init, i);
     }
 }
 
 // Each slot whose parent is s, ZOMBIE or not, gets init, and for each init's channel is woken.
-pub fn reparent(t: &mut [u64; Table::WORDS], s: usize)
+pub fn reparent(t: &mut [u64; Table::WORDS], caller: usize)
     requires { ⌜ Queued (tableOf (now t) .core) ⌝ }
-    ensures { λ _. ⌜ tableOf (now (t .exit)) ≡ onCore (reparent (tableOf (now (t .entry)) .books .init) s) (tableOf (now (t .entry))) ⌝ }
+    ensures { λ _. ⌜ tableOf (now (t .exit)) ≡ onCore (reparent (tableOf (now (t .entry)) .books .init) caller) (tableOf (now (t .entry))) ⌝ }
 {
     let init = book::init(t);
     for b in 0..Table::SLOTS / 4 {
         let i = 4 * b;
-        hand_over(t, init, s, i);
-        hand_over(t, init, s, i + 1);
-        hand_over(t, init, s, i + 2);
-        hand_over(t, init, s, i + 3);
+        hand_over(t, init, caller, i);
+        hand_over(t, init, caller, i + 1);
+        hand_over(t, init, caller, i + 2);
+        hand_over(t, init, caller, i + 3);
     }
 }

@@ -46,7 +46,7 @@ returns c =
     let user-sp = c .before .before .before .before .before .before .user-sp in
     let fill = c .before .before .before .before .fill in
     let a = entry .args in
-    init-law (tableOf (a .t .now)) (a .s) _ (new-group .result) (user-sp .result) (pack .result .low) (pack .result .high) (pids .ensures) (new-group .ensures .0) (user-sp .ensures) (pack .ensures)
+    init-law (tableOf (a .t .now)) (a .i) _ (new-group .result) (user-sp .result) (pack .result .low) (pack .result .high) (pids .ensures) (new-group .ensures .0) (user-sp .ensures) (pack .ensures)
     (c .set-init .ensures ∙ ap (onBooks (withInit _)) (c .before .before .set-group .ensures ∙ ap (onBooks (setGroup _ _)) (fill .ensures)))
 
 pub boot-in-spec : {M : Type 1} → statement M

@@ -18,12 +18,12 @@ returns c =
     let entry = c .before .before .before .before .before .before .before in
     let kin-at = c .before .before .before .before .before .kin-at in
     let if1 = c .before .before .before .before .if1 in
-    return-is (tableOf (entry .args .t .now)) (entry .args .h) (entry .args .s) (kin-at .ensures .0) (if1 .taken) (c .before .before .idle .ensures) (c .free-proc .ensures)
+    return-is (tableOf (entry .args .t .now)) (entry .args .hart) (entry .args .caller) (kin-at .ensures .0) (if1 .taken) (c .before .before .idle .ensures) (c .free-proc .ensures)
 
 returns-2 : tie.Need-returns-2
 returns-2 c =
     let entry = c .before .before .before in
-    return-user (tableOf (entry .args .t .now)) (entry .args .h) (entry .args .s) (c .before .kin-at .ensures .0) (c .if1 .left)
+    return-user (tableOf (entry .args .t .now)) (entry .args .hart) (entry .args .caller) (c .before .kin-at .ensures .0) (c .if1 .left)
 
 pub return-by-spec : {M : Type 1} → statement M
 return-by-spec =

@@ -32,7 +32,7 @@ returns c =
     let pids = c .before .before .before .before .before .before .pids in
     let pack = c .before .before .before .before .before .pack in
     let system-sp = c .before .before .before .before .system-sp in
-    system-law (tableOf (entry .args .t .now)) (entry .args .name .now) (entry .args .entry) (entry .args .s) _ (system-sp .result) (pack .result .low) (pack .result .high) (pids .ensures) (system-sp .ensures) (pack .ensures)
+    system-law (tableOf (entry .args .t .now)) (entry .args .name .now) (entry .args .entry) (entry .args .i) _ (system-sp .result) (pack .result .low) (pack .result .high) (pids .ensures) (system-sp .ensures) (pack .ensures)
     (c .make-runnable .ensures ∙ ap (onCore (publish _)) (c .before .before .fill .ensures))
 
 pub spawn-in-spec : {M : Type 1} → statement M

@@ -22,15 +22,15 @@ alloc-proc-requires c κs = search needs
 enum-known-n : tie.Need-enum-known-n
 enum-known-n c = search needs
 
-enum-known-s : tie.Need-enum-known-s
-enum-known-s c = search needs
+enum-known-i : tie.Need-enum-known-i
+enum-known-i c = search needs
 
 spawn-in-requires : tie.Need-spawn-in-requires
 spawn-in-requires c κs =
     let entry = c .before .before .before .before .before .before .before .before in
     let alloc-proc = c .before .before .before .before .alloc-proc in
-    let s = c .before .before .s in
-    ((subst InSlots (s .given .1) (alloc-proc .ensures .2)), taken-room (tableOf (entry .args .t .now)) (entry .pre) (subst InSlots (s .given .1) (alloc-proc .ensures .2)) (sym (s .given .1) ∙ alloc-proc .ensures .0) (alloc-proc .ensures .1))
+    let i = c .before .before .i in
+    ((subst InSlots (i .given .1) (alloc-proc .ensures .2)), taken-room (tableOf (entry .args .t .now)) (entry .pre) (subst InSlots (i .given .1) (alloc-proc .ensures .2)) (sym (i .given .1) ∙ alloc-proc .ensures .0) (alloc-proc .ensures .1))
 
 returns-2 : tie.Need-returns-2
 unfolding nameSize
@@ -44,8 +44,8 @@ unfolding nameSize
 returns-3 c =
     let entry = c .before .before .before .before .before .before .before .before .before in
     let alloc-proc = c .before .before .before .before .before .alloc-proc in
-    let s = c .before .before .before .s in
-    did (entry .pre) (spawn-is (tableOf (entry .args .t .now)) (entry .args .name .now) _ (omega arith) (sym (s .given .1) ∙ alloc-proc .ensures .0) (alloc-proc .ensures .1) (c .spawn-in .ensures))
+    let i = c .before .before .before .i in
+    did (entry .pre) (spawn-is (tableOf (entry .args .t .now)) (entry .args .name .now) _ (omega arith) (sym (i .given .1) ∙ alloc-proc .ensures .0) (alloc-proc .ensures .1) (c .spawn-in .ensures))
 
 pub spawn-system-thread-spec : {M : Type 1} → statement M
 spawn-system-thread-spec =
@@ -54,7 +54,7 @@ spawn-system-thread-spec =
     returns
     alloc-proc-requires
     enum-known-n
-    enum-known-s
+    enum-known-i
     spawn-in-requires
     returns-2
     returns-3)

@@ -27,13 +27,13 @@ alloc-proc-requires c κs = search needs
 enum-known-n : tie.Need-enum-known-n
 enum-known-n c = search needs
 
-enum-known-s : tie.Need-enum-known-s
-enum-known-s c = search needs
+enum-known-i : tie.Need-enum-known-i
+enum-known-i c = search needs
 
 boot-in-requires : tie.Need-boot-in-requires
 boot-in-requires c κs =
     let alloc-proc = c .before .before .before .before .alloc-proc in
-    subst InSlots (c .before .before .s .given .1) (alloc-proc .ensures .2)
+    subst InSlots (c .before .before .i .given .1) (alloc-proc .ensures .2)
 
 returns-2 : tie.Need-returns-2
 returns-2 c =
@@ -47,8 +47,8 @@ returns-3 c =
     let entry = c .before .before .before .before .before .before .before .before .before .before .before in
     let init = c .before .before .before .before .before .before .before .before .before .init in
     let alloc-proc = c .before .before .before .before .before .alloc-proc in
-    let s = c .before .before .before .s in
-    did (entry .pre) (boot-is (tableOf (entry .args .t .now)) (sym (init .ensures .0) ∙ cc) (sym (s .given .1) ∙ alloc-proc .ensures .0) (alloc-proc .ensures .1) (c .boot-in .ensures))
+    let i = c .before .before .before .i in
+    did (entry .pre) (boot-is (tableOf (entry .args .t .now)) (sym (init .ensures .0) ∙ cc) (sym (i .given .1) ∙ alloc-proc .ensures .0) (alloc-proc .ensures .1) (c .boot-in .ensures))
 
 pub user-init-spec : {M : Type 1} → statement M
 user-init-spec =
@@ -60,7 +60,7 @@ user-init-spec =
     enum-told-2
     alloc-proc-requires
     enum-known-n
-    enum-known-s
+    enum-known-i
     boot-in-requires
     returns-2
     returns-3)

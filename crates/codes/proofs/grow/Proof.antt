@@ -23,7 +23,7 @@ returns-2 : tie.Need-returns-2
 unfolding isFlag yes onlyIf
 returns-2 c =
     let entry = c .before .before in
-    ap (λ (z : ℤ). some (Grow (entry .args .h) z (yes (entry .args .memory)))) (toZ-ofZ (subst (SFits w64) (sym (c .signed-of .ensures)) (signed-fits (entry .args .count) (c .before .before .fits .count))) ∙ c .signed-of .ensures) ∙ rw (lt-ltb (entry .args .memory) 2 (c .before .if1 .left))
+    ap (λ (z : ℤ). some (Grow (entry .args .hart) z (yes (entry .args .memory)))) (toZ-ofZ (subst (SFits w64) (sym (c .signed-of .ensures)) (signed-fits (entry .args .count) (c .before .before .fits .count))) ∙ c .signed-of .ensures) ∙ rw (lt-ltb (entry .args .memory) 2 (c .before .if1 .left))
 
 pub grow-spec : {M : Type 1} → statement M
 grow-spec = tie.close (tie.spec returns signed-of-requires returns-2)

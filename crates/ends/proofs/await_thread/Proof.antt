@@ -17,7 +17,7 @@ returns : tie.Need-returns
 returns c =
     let entry = c .before .before .before .before .before in
     let slay = c .before .before .before .slay in
-    let a = entry .args in thread-awaited (tableOf (a .t .now)) (a .h) (a .x) (a .s) (a .i) (slay .ensures) (rw (c .before .own-channel .ensures) at (c .sleep-on .ensures))
+    let a = entry .args in thread-awaited (tableOf (a .t .now)) (a .hart) (a .status) (a .caller) (a .i) (slay .ensures) (rw (c .before .own-channel .ensures) at (c .sleep-on .ensures))
 
 pub await-thread-spec : {M : Type 1} → statement M
 await-thread-spec = tie.close (tie.spec slay-requires own-channel-requires sleep-on-requires returns)

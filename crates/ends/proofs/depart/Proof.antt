@@ -14,7 +14,7 @@ wake-of-requires : tie.Need-wake-of-requires
 wake-of-requires c κs =
     let entry = c .before .before .before .before .before in
     let reparent = c .before .before .before .reparent in
-    (c .before .kin-at .ensures .2, reparent-queued (tableOf (entry .args .t .now)) (entry .args .s) (reparent .ensures) (entry .pre .2))
+    (c .before .kin-at .ensures .2, reparent-queued (tableOf (entry .args .t .now)) (entry .args .caller) (reparent .ensures) (entry .pre .2))
 
 zombie-on-requires : tie.Need-zombie-on-requires
 zombie-on-requires c κs = search needs
@@ -24,7 +24,7 @@ returns c =
     let entry = c .before .before .before .before .before .before .before .before in
     let reparent = c .before .before .before .before .before .before .reparent in
     let kin-at = c .before .before .before .before .kin-at in
-    departed (tableOf (entry .args .t .now)) (entry .args .h) (entry .args .x) (entry .args .s) (reparent .ensures) (c .zombie-on .ensures) (kin-at .ensures .0) (c .before .before .wake-of .ensures)
+    departed (tableOf (entry .args .t .now)) (entry .args .hart) (entry .args .status) (entry .args .caller) (reparent .ensures) (c .zombie-on .ensures) (kin-at .ensures .0) (c .before .before .wake-of .ensures)
 
 pub depart-spec : {M : Type 1} → statement M
 depart-spec =

@@ -45,7 +45,7 @@ returns c =
     let reap-threads = c .before .before .before .before .before .before .before .reap-threads in
     let find = c .before .before .before .before .before .find in
     let i = c .before .before .before .i in
-    leader-is (tableOf (entry .args .t .now)) (entry .args .h) (entry .args .x) (entry .args .s) (ap (λ (k : Kin). k .group) (kin-at .ensures .0)) (reap-threads .ensures) (find .ensures .0) (sym (i .given .1)) (c .await-thread .ensures)
+    leader-is (tableOf (entry .args .t .now)) (entry .args .hart) (entry .args .status) (entry .args .caller) (ap (λ (k : Kin). k .group) (kin-at .ensures .0)) (reap-threads .ensures) (find .ensures .0) (sym (i .given .1)) (c .await-thread .ensures)
 
 returns-2 : tie.Need-returns-2
 returns-2 c =
@@ -53,7 +53,7 @@ returns-2 c =
     let kin-at = c .before .before .before .before .before .before .before .before .kin-at in
     let reap-threads = c .before .before .before .before .before .before .reap-threads in
     let find = c .before .before .before .before .find in
-    leader-is (tableOf (entry .args .t .now)) (entry .args .h) (entry .args .x) (entry .args .s) {r = find .result} {y = Nothing} (ap (λ (k : Kin). k .group) (kin-at .ensures .0)) (reap-threads .ensures) (find .ensures .0) (cc) (c .depart .ensures)
+    leader-is (tableOf (entry .args .t .now)) (entry .args .hart) (entry .args .status) (entry .args .caller) {r = find .result} {y = Nothing} (ap (λ (k : Kin). k .group) (kin-at .ensures .0)) (reap-threads .ensures) (find .ensures .0) (cc) (c .depart .ensures)
 
 pub exit-leader-spec : {M : Type 1} → statement M
 exit-leader-spec =

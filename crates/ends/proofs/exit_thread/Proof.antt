@@ -13,7 +13,7 @@ own-channel-requires c κs = search needs
 wake-up-requires : tie.Need-wake-up-requires
 wake-up-requires c κs =
     let entry = c .before .before .before .before in
-    reparent-queued (tableOf (entry .args .t .now)) (entry .args .s) (c .before .before .reparent .ensures) (entry .pre .2)
+    reparent-queued (tableOf (entry .args .t .now)) (entry .args .caller) (c .before .before .reparent .ensures) (entry .pre .2)
 
 zombie-on-requires : tie.Need-zombie-on-requires
 zombie-on-requires c κs = search needs
@@ -23,7 +23,7 @@ returns c =
     let entry = c .before .before .before .before .before .before .before in
     let reparent = c .before .before .before .before .before .reparent in
     let own-channel = c .before .before .before .own-channel in
-    let a = entry .args in thread-ended (tableOf (a .t .now)) (a .h) (a .x) (a .s) (reparent .ensures) (c .zombie-on .ensures) (rw (own-channel .ensures) at (c .before .before .wake-up .ensures))
+    let a = entry .args in thread-ended (tableOf (a .t .now)) (a .hart) (a .status) (a .caller) (reparent .ensures) (c .zombie-on .ensures) (rw (own-channel .ensures) at (c .before .before .wake-up .ensures))
 
 pub exit-thread-spec : {M : Type 1} → statement M
 exit-thread-spec =

@@ -17,7 +17,7 @@ returns c = search needs
 returns-2 : tie.Need-returns-2
 returns-2 c =
     let entry = c .before .before .before .before in
-    sym (ap (λ (p : Parent). isSlot (entry .args .s) p) (c .before .before .p .given .1))
+    sym (ap (λ (p : Parent). isSlot (entry .args .i) p) (c .before .before .p .given .1))
 
 pub is-slot-spec : {M : Type 1} → statement M
 is-slot-spec = tie.close (tie.spec enum-told enum-known-p returns returns-2)

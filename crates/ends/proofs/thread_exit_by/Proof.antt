@@ -1,71 +1,55 @@
-use Rattle.ends.proofs.EndLaws.{init-stays-too, system-stays-too, thread-exits, leader-exits-too}
+use Rattle.ends.proofs.EndLaws.{stayed, thread-exits, leader-exits}
 use Rattle.words.specs.Reading.{tableOf}
-use mathlib.Core.Path.{sym, ap, _∙_}
-use Rattle.rules.specs.declared.Parent.{Parent}
-use Rattle.rules.specs.Model.{isSlot}
+use mathlib.Core.Path.{sym, _∙_}
 use borrow.Author.Needs.{needs}
 use Rattle.ends.proofs.thread_exit_by.Statement.{statement}
 use Rattle.ends.proofs.thread_exit_by.Tie as tie
 
-kin-at-requires : tie.Need-kin-at-requires
-kin-at-requires c κs = search needs
-
-init-requires : tie.Need-init-requires
-init-requires c κs = search needs
-
-is-slot-requires : tie.Need-is-slot-requires
-is-slot-requires c κs = search needs
+stays-requires : tie.Need-stays-requires
+stays-requires c κs = search needs
 
 returns : tie.Need-returns
 returns c =
-    let entry = c .before .before .before .before .before .before in
-    init-stays-too (tableOf (entry .args .t .now)) (entry .args .h) (entry .args .x) (entry .args .s) (ap (λ (p : Parent). isSlot (entry .args .s) p) (sym (c .before .before .init .ensures .0)) ∙ sym (c .before .is-slot .ensures) ∙ c .if1 .taken)
+    let entry = c .before .before .before in
+    stayed (tableOf (entry .args .t .now)) (entry .args .hart) (entry .args .status) (entry .args .caller) (sym (c .before .stays .ensures) ∙ c .if1 .taken)
 
-returns-2 : tie.Need-returns-2
-returns-2 c =
-    let entry = c .before .before .before .before .before .before .before in
-    let kin-at = c .before .before .before .before .before .kin-at in
-    let init = c .before .before .before .init in
-    system-stays-too (tableOf (entry .args .t .now)) (entry .args .h) (entry .args .x) (entry .args .s) (ap (λ (p : Parent). isSlot (entry .args .s) p) (sym (init .ensures .0)) ∙ sym (c .before .before .is-slot .ensures) ∙ c .before .if1 .left) (kin-at .ensures .0) (c .if2 .taken)
+kin-at-requires : tie.Need-kin-at-requires
+kin-at-requires c κs = search needs
 
 exit-thread-requires : tie.Need-exit-thread-requires
 exit-thread-requires c κs =
-    let entry = c .before .before .before .before .before .before .before .before .before in
+    let entry = c .before .before .before .before .before .before .before in
     (entry .pre .0, entry .pre .1, entry .pre .2 .queued)
 
-returns-3 : tie.Need-returns-3
-returns-3 c =
-    let entry = c .before .before .before .before .before .before .before .before .before .before in
-    let kin-at = c .before .before .before .before .before .before .before .before .kin-at in
-    let init = c .before .before .before .before .before .before .init in
-    let is-slot = c .before .before .before .before .before .is-slot in
-    let if1 = c .before .before .before .before .if1 in
-    let if2 = c .before .before .before .if2 in
-    thread-exits (tableOf (entry .args .t .now)) (entry .args .h) (entry .args .x) (entry .args .s) (ap (λ (p : Parent). isSlot (entry .args .s) p) (sym (init .ensures .0)) ∙ sym (is-slot .ensures) ∙ if1 .left) (kin-at .ensures .0) (if2 .left) (c .before .before .if3 .taken) (c .exit-thread .ensures)
+returns-2 : tie.Need-returns-2
+returns-2 c =
+    let entry = c .before .before .before .before .before .before .before .before in
+    let stays = c .before .before .before .before .before .before .stays in
+    let if1 = c .before .before .before .before .before .if1 in
+    let kin-at = c .before .before .before .kin-at in
+    thread-exits (tableOf (entry .args .t .now)) (entry .args .hart) (entry .args .status) (entry .args .caller) (kin-at .ensures .0) (sym (stays .ensures) ∙ if1 .left)
+    (c .before .before .if2 .taken) (c .exit-thread .ensures)
 
 exit-leader-requires : tie.Need-exit-leader-requires
 exit-leader-requires c κs = search needs
 
-returns-4 : tie.Need-returns-4
-returns-4 c =
-    let entry = c .before .before .before .before .before .before .before .before .before .before in
-    let kin-at = c .before .before .before .before .before .before .before .before .kin-at in
-    let init = c .before .before .before .before .before .before .init in
-    let is-slot = c .before .before .before .before .before .is-slot in
-    let if1 = c .before .before .before .before .if1 in
-    let if2 = c .before .before .before .if2 in
-    leader-exits-too (tableOf (entry .args .t .now)) (entry .args .h) (entry .args .x) (entry .args .s) (ap (λ (p : Parent). isSlot (entry .args .s) p) (sym (init .ensures .0)) ∙ sym (is-slot .ensures) ∙ if1 .left) (kin-at .ensures .0) (if2 .left) (c .before .before .if3 .left) (c .exit-leader .ensures)
+returns-3 : tie.Need-returns-3
+returns-3 c =
+    let entry = c .before .before .before .before .before .before .before .before in
+    let stays = c .before .before .before .before .before .before .stays in
+    let if1 = c .before .before .before .before .before .if1 in
+    let kin-at = c .before .before .before .kin-at in
+    leader-exits (tableOf (entry .args .t .now)) (entry .args .hart) (entry .args .status) (entry .args .caller) (kin-at .ensures .0) (sym (stays .ensures) ∙ if1 .left)
+    (c .before .before .if2 .left) (c .exit-leader .ensures)
 
 pub thread-exit-by-spec : {M : Type 1} → statement M
 thread-exit-by-spec =
     tie.close
     (tie.spec
-    kin-at-requires
-    init-requires
-    is-slot-requires
+    stays-requires
     returns
-    returns-2
+    kin-at-requires
     exit-thread-requires
-    returns-3
+    returns-2
     exit-leader-requires
-    returns-4)
+    returns-3)

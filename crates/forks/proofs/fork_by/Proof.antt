@@ -21,7 +21,7 @@ enum-told c = search needs
 returns : tie.Need-returns
 returns c =
     let entry = c .before .before .before .before in
-    fork-alone (tableOf (entry .args .t .now)) (entry .args .memory) (entry .args .s) ((cc) ∙ ap (λ (k : Kin). k .group) (c .before .before .kin-at .ensures .0))
+    fork-alone (tableOf (entry .args .t .now)) (entry .args .memory) (entry .args .caller) ((cc) ∙ ap (λ (k : Kin). k .group) (c .before .before .kin-at .ensures .0))
 
 alloc-proc-requires : tie.Need-alloc-proc-requires
 alloc-proc-requires c κs = search needs
@@ -29,15 +29,15 @@ alloc-proc-requires c κs = search needs
 enum-known-n : tie.Need-enum-known-n
 enum-known-n c = search needs
 
-enum-known-c : tie.Need-enum-known-c
-enum-known-c c = search needs
+enum-known-child : tie.Need-enum-known-child
+enum-known-child c = search needs
 
 fork-in-requires : tie.Need-fork-in-requires
 fork-in-requires c κs = (
   c .before .before .before .before .before .before .before .before .before .before .before .before .pre .0,
   subst InGroups (c .before .before .before .before .before .before .before .before .group .given .1) (c .before .before .before .before .before .before .before .before .before .before .kin-at .ensures .1),
-  (subst InSlots (c .before .before .before .c .given .1) (c .before .before .before .before .before .alloc-proc .ensures .2)),
-  taken-room (tableOf (c .before .before .before .before .before .before .before .before .before .before .before .before .args .t .now)) (c .before .before .before .before .before .before .before .before .before .before .before .before .pre .1) (subst InSlots (c .before .before .before .c .given .1) (c .before .before .before .before .before .alloc-proc .ensures .2)) (sym (c .before .before .before .c .given .1) ∙ c .before .before .before .before .before .alloc-proc .ensures .0) (c .before .before .before .before .before .alloc-proc .ensures .1),
+  (subst InSlots (c .before .before .before .child .given .1) (c .before .before .before .before .before .alloc-proc .ensures .2)),
+  taken-room (tableOf (c .before .before .before .before .before .before .before .before .before .before .before .before .args .t .now)) (c .before .before .before .before .before .before .before .before .before .before .before .before .pre .1) (subst InSlots (c .before .before .before .child .given .1) (c .before .before .before .before .before .alloc-proc .ensures .2)) (sym (c .before .before .before .child .given .1) ∙ c .before .before .before .before .before .alloc-proc .ensures .0) (c .before .before .before .before .before .alloc-proc .ensures .1),
 )
 
 returns-2 : tie.Need-returns-2
@@ -46,7 +46,7 @@ returns-2 c =
     let kin-at = c .before .before .before .before .before .before .before .before .before .before .before .kin-at in
     let group = c .before .before .before .before .before .before .before .before .before .group in
     let alloc-proc = c .before .before .before .before .before .before .alloc-proc in
-    fork-made (tableOf (entry .args .t .now)) (entry .args .memory) (entry .args .s) (sym (group .given .1) ∙ ap (λ (k : Kin). k .group) (kin-at .ensures .0)) (sym (c .before .before .before .before .c .given .1) ∙ alloc-proc .ensures .0) (alloc-proc .ensures .1) (c .before .before .if1 .taken) (c .fork-in .ensures)
+    fork-made (tableOf (entry .args .t .now)) (entry .args .memory) (entry .args .caller) (sym (group .given .1) ∙ ap (λ (k : Kin). k .group) (kin-at .ensures .0)) (sym (c .before .before .before .before .child .given .1) ∙ alloc-proc .ensures .0) (alloc-proc .ensures .1) (c .before .before .if1 .taken) (c .fork-in .ensures)
 
 returns-3 : tie.Need-returns-3
 returns-3 c =
@@ -54,7 +54,7 @@ returns-3 c =
     let kin-at = c .before .before .before .before .before .before .before .before .kin-at in
     let group = c .before .before .before .before .before .before .group in
     let alloc-proc = c .before .before .before .alloc-proc in
-    fork-full (tableOf (entry .args .t .now)) (entry .args .memory) (entry .args .s) (sym (group .given .1) ∙ ap (λ (k : Kin). k .group) (kin-at .ensures .0)) (sym (c .before .n .given .1) ∙ alloc-proc .ensures .0) (alloc-proc .ensures .1)
+    fork-full (tableOf (entry .args .t .now)) (entry .args .memory) (entry .args .caller) (sym (group .given .1) ∙ ap (λ (k : Kin). k .group) (kin-at .ensures .0)) (sym (c .before .n .given .1) ∙ alloc-proc .ensures .0) (alloc-proc .ensures .1)
 
 returns-4 : tie.Need-returns-4
 returns-4 c =
@@ -62,7 +62,7 @@ returns-4 c =
     let kin-at = c .before .before .before .before .before .before .before .before .before .kin-at in
     let group = c .before .before .before .before .before .before .before .group in
     let alloc-proc = c .before .before .before .before .alloc-proc in
-    fork-poor (tableOf (entry .args .t .now)) (entry .args .memory) (entry .args .s) (sym (group .given .1) ∙ ap (λ (k : Kin). k .group) (kin-at .ensures .0)) (sym (c .before .before .c .given .1) ∙ alloc-proc .ensures .0) (alloc-proc .ensures .1) (c .if1 .left)
+    fork-poor (tableOf (entry .args .t .now)) (entry .args .memory) (entry .args .caller) (sym (group .given .1) ∙ ap (λ (k : Kin). k .group) (kin-at .ensures .0)) (sym (c .before .before .child .given .1) ∙ alloc-proc .ensures .0) (alloc-proc .ensures .1) (c .if1 .left)
 
 pub fork-by-spec : {M : Type 1} → statement M
 fork-by-spec =
@@ -74,7 +74,7 @@ fork-by-spec =
     returns
     alloc-proc-requires
     enum-known-n
-    enum-known-c
+    enum-known-child
     fork-in-requires
     returns-2
     returns-3

@@ -47,7 +47,7 @@ returns c =
     let start-at = c .before .before .before .before .before .before .before .start-at in
     let user-sp = c .before .before .before .before .before .before .user-sp in
     let fill = c .before .before .before .before .fill in
-    child-law (tableOf (entry .args .t .now)) (entry .args .s) (entry .args .g) (entry .args .c) _ (new-group .result) (user-sp .result) (start-at .result .name0) (start-at .result .name1)
+    child-law (tableOf (entry .args .t .now)) (entry .args .caller) (entry .args .g) (entry .args .child) _ (new-group .result) (user-sp .result) (start-at .result .name0) (start-at .result .name1)
     (pids .ensures) (group-at .ensures) (new-group .ensures .0) (ap (λ (b : Start). b .name) (start-at .ensures)) (user-sp .ensures)
     (c .make-runnable .ensures ∙ ap (onCore (publish _)) (c .before .before .set-group .ensures ∙ ap (onBooks (setGroup _ _)) (fill .ensures)))
 

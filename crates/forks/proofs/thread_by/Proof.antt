@@ -21,7 +21,7 @@ enum-told c = search needs
 returns : tie.Need-returns
 returns c =
     let entry = c .before .before .before .before in
-    thread-alone (tableOf (entry .args .t .now)) (entry .args .a) (entry .args .m) (entry .args .s) ((cc) ∙ ap (λ (k : Kin). k .group) (c .before .before .kin-at .ensures .0))
+    thread-alone (tableOf (entry .args .t .now)) (entry .args .ask) (entry .args .mapped) (entry .args .caller) ((cc) ∙ ap (λ (k : Kin). k .group) (c .before .before .kin-at .ensures .0))
 
 group-at-requires : tie.Need-group-at-requires
 group-at-requires c κs =
@@ -36,7 +36,7 @@ returns-2 c =
     let entry = c .before .before .before .before .before .before .before .before .before in
     let kin-at = c .before .before .before .before .before .before .before .kin-at in
     let group = c .before .before .before .before .before .group in
-    thread-wrong (tableOf (entry .args .t .now)) (entry .args .a) (entry .args .m) (entry .args .s) (sym (group .given .1) ∙ ap (λ (k : Kin). k .group) (kin-at .ensures .0)) (c .before .before .group-at .ensures) (c .before .wrong-ask .ensures) (c .if1 .taken)
+    thread-wrong (tableOf (entry .args .t .now)) (entry .args .ask) (entry .args .mapped) (entry .args .caller) (sym (group .given .1) ∙ ap (λ (k : Kin). k .group) (kin-at .ensures .0)) (c .before .before .group-at .ensures) (c .before .wrong-ask .ensures) (c .if1 .taken)
 
 unmapped-requires : tie.Need-unmapped-requires
 unmapped-requires c κs = search needs
@@ -48,7 +48,7 @@ returns-3 c =
     let group = c .before .before .before .before .before .before .before .group in
     let group-at = c .before .before .before .before .group-at in
     let wrong-ask = c .before .before .before .wrong-ask in
-    thread-unmapped (tableOf (entry .args .t .now)) (entry .args .a) (entry .args .m) (entry .args .s) (sym (group .given .1) ∙ ap (λ (k : Kin). k .group) (kin-at .ensures .0)) (group-at .ensures) (wrong-ask .ensures) (c .before .before .if1 .left) (sym (c .before .unmapped .ensures) ∙ c .if2 .taken)
+    thread-unmapped (tableOf (entry .args .t .now)) (entry .args .ask) (entry .args .mapped) (entry .args .caller) (sym (group .given .1) ∙ ap (λ (k : Kin). k .group) (kin-at .ensures .0)) (group-at .ensures) (wrong-ask .ensures) (c .before .before .if1 .left) (sym (c .before .unmapped .ensures) ∙ c .if2 .taken)
 
 alloc-proc-requires : tie.Need-alloc-proc-requires
 alloc-proc-requires c κs = search needs
@@ -56,17 +56,17 @@ alloc-proc-requires c κs = search needs
 enum-known-n : tie.Need-enum-known-n
 enum-known-n c = search needs
 
-enum-known-c : tie.Need-enum-known-c
-enum-known-c c = search needs
+enum-known-i : tie.Need-enum-known-i
+enum-known-i c = search needs
 
 thread-in-requires : tie.Need-thread-in-requires
 thread-in-requires c κs = (
   c .before .before .before .before .before .before .before .before .before .before .before .before .before .before .before .before .before .pre .0,
   subst InGroups (c .before .before .before .before .before .before .before .before .before .before .before .before .before .group .given .1) (c .before .before .before .before .before .before .before .before .before .before .before .before .before .before .before .kin-at .ensures .1),
-  (subst InSlots (c .before .before .c .given .1) (c .before .before .before .before .alloc-proc .ensures .2)),
-  taken-room (tableOf (c .before .before .before .before .before .before .before .before .before .before .before .before .before .before .before .before .before .args .t .now)) (c .before .before .before .before .before .before .before .before .before .before .before .before .before .before .before .before .before .pre .1) (subst InSlots (c .before .before .c .given .1) (c .before .before .before .before .alloc-proc .ensures .2)) (sym (c .before .before .c .given .1) ∙ c .before .before .before .before .alloc-proc .ensures .0) (c .before .before .before .before .alloc-proc .ensures .1),
-  taken-count (tableOf (c .before .before .before .before .before .before .before .before .before .before .before .before .before .before .before .before .before .args .t .now)) (c .before .before .before .before .before .before .before .before .before .before .before .before .before .before .before .before .before .pre .1) (subst InSlots (c .before .before .c .given .1) (c .before .before .before .before .alloc-proc .ensures .2)) (sym (c .before .before .c .given .1) ∙ c .before .before .before .before .alloc-proc .ensures .0) (c .before .before .before .before .alloc-proc .ensures .1) _,
-  ask-fits (c .before .before .before .before .before .before .before .before .before .before .before .before .before .before .before .before .before .args .a) (c .before .before .before .before .before .before .before .before .before .before .group-at .result .size) (sym (c .before .before .before .before .before .before .before .before .before .wrong-ask .ensures) ∙ c .before .before .before .before .before .before .before .before .if1 .left),
+  (subst InSlots (c .before .before .i .given .1) (c .before .before .before .before .alloc-proc .ensures .2)),
+  taken-room (tableOf (c .before .before .before .before .before .before .before .before .before .before .before .before .before .before .before .before .before .args .t .now)) (c .before .before .before .before .before .before .before .before .before .before .before .before .before .before .before .before .before .pre .1) (subst InSlots (c .before .before .i .given .1) (c .before .before .before .before .alloc-proc .ensures .2)) (sym (c .before .before .i .given .1) ∙ c .before .before .before .before .alloc-proc .ensures .0) (c .before .before .before .before .alloc-proc .ensures .1),
+  taken-count (tableOf (c .before .before .before .before .before .before .before .before .before .before .before .before .before .before .before .before .before .args .t .now)) (c .before .before .before .before .before .before .before .before .before .before .before .before .before .before .before .before .before .pre .1) (subst InSlots (c .before .before .i .given .1) (c .before .before .before .before .alloc-proc .ensures .2)) (sym (c .before .before .i .given .1) ∙ c .before .before .before .before .alloc-proc .ensures .0) (c .before .before .before .before .alloc-proc .ensures .1) _,
+  ask-fits (c .before .before .before .before .before .before .before .before .before .before .before .before .before .before .before .before .before .args .ask) (c .before .before .before .before .before .before .before .before .before .before .group-at .result .size) (sym (c .before .before .before .before .before .before .before .before .before .wrong-ask .ensures) ∙ c .before .before .before .before .before .before .before .before .if1 .left),
 )
 
 returns-4 : tie.Need-returns-4
@@ -80,7 +80,7 @@ returns-4 c =
     let unmapped = c .before .before .before .before .before .before .unmapped in
     let if2 = c .before .before .before .before .before .if2 in
     let alloc-proc = c .before .before .before .alloc-proc in
-    thread-full (tableOf (entry .args .t .now)) (entry .args .a) (entry .args .m) (entry .args .s) (sym (group .given .1) ∙ ap (λ (k : Kin). k .group) (kin-at .ensures .0)) (group-at .ensures) (wrong-ask .ensures) (if1 .left) (sym (unmapped .ensures) ∙ if2 .left) (sym (c .before .n .given .1) ∙ alloc-proc .ensures .0) (alloc-proc .ensures .1)
+    thread-full (tableOf (entry .args .t .now)) (entry .args .ask) (entry .args .mapped) (entry .args .caller) (sym (group .given .1) ∙ ap (λ (k : Kin). k .group) (kin-at .ensures .0)) (group-at .ensures) (wrong-ask .ensures) (if1 .left) (sym (unmapped .ensures) ∙ if2 .left) (sym (c .before .n .given .1) ∙ alloc-proc .ensures .0) (alloc-proc .ensures .1)
 
 returns-5 : tie.Need-returns-5
 returns-5 c =
@@ -93,7 +93,7 @@ returns-5 c =
     let unmapped = c .before .before .before .before .before .before .before .before .unmapped in
     let if2 = c .before .before .before .before .before .before .before .if2 in
     let alloc-proc = c .before .before .before .before .before .alloc-proc in
-    thread-made (tableOf (entry .args .t .now)) (entry .args .a) (entry .args .m) (entry .args .s) (sym (group .given .1) ∙ ap (λ (k : Kin). k .group) (kin-at .ensures .0)) (group-at .ensures) (wrong-ask .ensures) (if1 .left) (sym (unmapped .ensures) ∙ if2 .left) (sym (c .before .before .before .c .given .1) ∙ alloc-proc .ensures .0) (alloc-proc .ensures .1) (c .thread-in .ensures)
+    thread-made (tableOf (entry .args .t .now)) (entry .args .ask) (entry .args .mapped) (entry .args .caller) (sym (group .given .1) ∙ ap (λ (k : Kin). k .group) (kin-at .ensures .0)) (group-at .ensures) (wrong-ask .ensures) (if1 .left) (sym (unmapped .ensures) ∙ if2 .left) (sym (c .before .before .before .i .given .1) ∙ alloc-proc .ensures .0) (alloc-proc .ensures .1) (c .thread-in .ensures)
 
 pub thread-by-spec : {M : Type 1} → statement M
 thread-by-spec =
@@ -110,7 +110,7 @@ thread-by-spec =
     returns-3
     alloc-proc-requires
     enum-known-n
-    enum-known-c
+    enum-known-i
     thread-in-requires
     returns-4
     returns-5)

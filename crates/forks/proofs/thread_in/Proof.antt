@@ -62,8 +62,8 @@ returns c =
     let below = c .before .before .before .before .before .before .before .before .below in
     let user-sp = c .before .before .before .before .before .before .before .user-sp in
     let fill = c .before .before .before .before .fill in
-    thread-law (tableOf (entry .args .t .now)) (entry .args .a) (entry .args .s) (entry .args .g) (entry .args .c) _ (below .result) (user-sp .result) (start-at .result .name0) (start-at .result .name1)
-    (pids .ensures) (leader-law (tableOf (entry .args .t .now)) (entry .args .s) (kin-at .ensures .0) (leader-of .ensures .0)) (below .ensures) (user-sp .ensures) (ap (λ (b : Start). b .name) (start-at .ensures))
+    thread-law (tableOf (entry .args .t .now)) (entry .args .ask) (entry .args .caller) (entry .args .g) (entry .args .i) _ (below .result) (user-sp .result) (start-at .result .name0) (start-at .result .name1)
+    (pids .ensures) (leader-law (tableOf (entry .args .t .now)) (entry .args .caller) (kin-at .ensures .0) (leader-of .ensures .0)) (below .ensures) (user-sp .ensures) (ap (λ (b : Start). b .name) (start-at .ensures))
     (c .make-runnable .ensures ∙ ap (onCore (publish _)) (c .before .before .join-group .ensures ∙ ap (onBooks (joinGroup _)) (fill .ensures)))
 
 pub thread-in-spec : {M : Type 1} → statement M

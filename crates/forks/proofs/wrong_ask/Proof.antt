@@ -13,13 +13,13 @@ returns : tie.Need-returns
 unfolding addressTop pageSize
 returns c =
     let entry = c .before .before in
-    ask-past (entry .args .a) (entry .args .size) (omega (arith, c .if1 .taken))
+    ask-past (entry .args .ask) (entry .args .size) (omega (arith, c .if1 .taken))
 
 returns-2 : tie.Need-returns-2
 unfolding addressTop pageSize
 returns-2 c =
     let entry = c .before .before .before .before in
-    ask-crooked (entry .args .a) (entry .args .size) (omega (arith, c .before .before .if1 .left)) (ne-eqb _ _ (c .if2 .taken))
+    ask-crooked (entry .args .ask) (entry .args .size) (omega (arith, c .before .before .if1 .left)) (ne-eqb _ _ (c .if2 .taken))
 
 add-if3 : tie.Need-add-if3
 add-if3 c = search needs
@@ -29,7 +29,7 @@ unfolding addressTop pageSize
 returns-3 c =
     let entry = c .before .before .before .before .before .before in
     let if1 = c .before .before .before .before .if1 in
-    ask-high (entry .args .a) (entry .args .size) (omega (arith, if1 .left)) (c .before .before .if2 .left) (c .if3 .taken)
+    ask-high (entry .args .ask) (entry .args .size) (omega (arith, if1 .left)) (c .before .before .if2 .left) (c .if3 .taken)
 
 returns-4 : tie.Need-returns-4
 unfolding addressTop pageSize
@@ -37,7 +37,7 @@ returns-4 c =
     let entry = c .before .before .before .before .before .before .before .before in
     let if1 = c .before .before .before .before .before .before .if1 in
     let if2 = c .before .before .before .before .if2 in
-    ask-entry (entry .args .a) (entry .args .size) (omega (arith, if1 .left)) (if2 .left) (c .before .before .if3 .left) (c .if4 .taken)
+    ask-entry (entry .args .ask) (entry .args .size) (omega (arith, if1 .left)) (if2 .left) (c .before .before .if3 .left) (c .if4 .taken)
 
 returns-5 : tie.Need-returns-5
 unfolding addressTop pageSize
@@ -46,7 +46,7 @@ returns-5 c =
     let if1 = c .before .before .before .before .before .before .before .before .if1 in
     let if2 = c .before .before .before .before .before .before .if2 in
     let if3 = c .before .before .before .before .if3 in
-    ask-ret (entry .args .a) (entry .args .size) (omega (arith, if1 .left)) (if2 .left) (if3 .left) (c .before .before .if4 .left) (c .if5 .taken)
+    ask-ret (entry .args .ask) (entry .args .size) (omega (arith, if1 .left)) (if2 .left) (if3 .left) (c .before .before .if4 .left) (c .if5 .taken)
 
 returns-6 : tie.Need-returns-6
 unfolding addressTop pageSize
@@ -55,7 +55,7 @@ returns-6 c =
     let if1 = c .before .before .before .before .before .before .before .before .if1 in
     let if2 = c .before .before .before .before .before .before .if2 in
     let if3 = c .before .before .before .before .if3 in
-    ask-right (entry .args .a) (entry .args .size) (omega (arith, if1 .left)) (if2 .left) (if3 .left) (c .before .before .if4 .left) (c .if5 .left)
+    ask-right (entry .args .ask) (entry .args .size) (omega (arith, if1 .left)) (if2 .left) (if3 .left) (c .before .before .if4 .left) (c .if5 .left)
 
 pub wrong-ask-spec : {M : Type 1} → statement M
 wrong-ask-spec =

@@ -19,7 +19,7 @@ enum-told c = search needs
 returns : tie.Need-returns
 returns c =
     let entry = c .before .before .before .before in
-    by-alone (tableOf (entry .args .t .now)) (entry .args .count) (entry .args .memory) (entry .args .s) ((cc) ∙ ap (λ (k : Kin). k .group) (c .before .before .kin-at .ensures .0))
+    by-alone (tableOf (entry .args .t .now)) (entry .args .count) (entry .args .memory) (entry .args .caller) ((cc) ∙ ap (λ (k : Kin). k .group) (c .before .before .kin-at .ensures .0))
 
 group-at-requires : tie.Need-group-at-requires
 group-at-requires c κs =
@@ -45,7 +45,7 @@ returns-2 c =
     let group = c .before .before .before .before .before .before .group in
     let group-at = c .before .before .before .group-at in
     let new-size = c .before .before .new-size in
-    by-out (tableOf (entry .args .t .now)) (entry .args .count) (entry .args .memory) (entry .args .s) (toZ-ofZ (fits .count)) (sym (group .given .1) ∙ ap (λ (k : Kin). k .group) (kin-at .ensures .0)) (group-at .ensures) (new-size .result) (new-size .ensures) (cc)
+    by-out (tableOf (entry .args .t .now)) (entry .args .count) (entry .args .memory) (entry .args .caller) (toZ-ofZ (fits .count)) (sym (group .given .1) ∙ ap (λ (k : Kin). k .group) (kin-at .ensures .0)) (group-at .ensures) (new-size .result) (new-size .ensures) (cc)
 
 no-memory-requires : tie.Need-no-memory-requires
 no-memory-requires c κs = search needs
@@ -59,7 +59,7 @@ returns-3 c =
     let group-at = c .before .before .before .before .before .before .group-at in
     let new-size = c .before .before .before .before .before .new-size in
     let n = c .before .before .before .n in
-    by-no-memory (tableOf (entry .args .t .now)) (entry .args .count) (entry .args .memory) (entry .args .s) (toZ-ofZ (fits .count)) (sym (group .given .1) ∙ ap (λ (k : Kin). k .group) (kin-at .ensures .0)) (group-at .ensures) (new-size .result) (new-size .ensures) (sym (n .given .1)) (c .before .no-memory .ensures) (c .if1 .taken)
+    by-no-memory (tableOf (entry .args .t .now)) (entry .args .count) (entry .args .memory) (entry .args .caller) (toZ-ofZ (fits .count)) (sym (group .given .1) ∙ ap (λ (k : Kin). k .group) (kin-at .ensures .0)) (group-at .ensures) (new-size .result) (new-size .ensures) (sym (n .given .1)) (c .before .no-memory .ensures) (c .if1 .taken)
 
 set-group-requires : tie.Need-set-group-requires
 set-group-requires c κs =
@@ -77,7 +77,7 @@ returns-4 c =
     let new-size = c .before .before .before .before .before .before .before .new-size in
     let n = c .before .before .before .before .before .n in
     let no-memory = c .before .before .before .no-memory in
-    by-done (tableOf (entry .args .t .now)) (entry .args .count) (entry .args .memory) (entry .args .s) (toZ-ofZ (fits .count)) (sym (group .given .1) ∙ ap (λ (k : Kin). k .group) (kin-at .ensures .0)) (group-at .ensures) (new-size .result) (new-size .ensures) (sym (n .given .1)) (no-memory .ensures) (c .before .before .if1 .left) (c .set-group .ensures)
+    by-done (tableOf (entry .args .t .now)) (entry .args .count) (entry .args .memory) (entry .args .caller) (toZ-ofZ (fits .count)) (sym (group .given .1) ∙ ap (λ (k : Kin). k .group) (kin-at .ensures .0)) (group-at .ensures) (new-size .result) (new-size .ensures) (sym (n .given .1)) (no-memory .ensures) (c .before .before .if1 .left) (c .set-group .ensures)
 
 pub grow-by-spec : {M : Type 1} → statement M
 grow-by-spec =

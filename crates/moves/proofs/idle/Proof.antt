@@ -11,7 +11,7 @@ set-hart-requires c κs = search needs
 returns : tie.Need-returns
 returns c =
     let entry = c .before .before in
-    c .set-hart .ensures ∙ idle-law (tableOf (entry .args .t .now)) (entry .args .h)
+    c .set-hart .ensures ∙ idle-law (tableOf (entry .args .t .now)) (entry .args .hart)
 
 pub idle-spec : {M : Type 1} → statement M
 idle-spec = tie.close (tie.spec set-hart-requires returns)

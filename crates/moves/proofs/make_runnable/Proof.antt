@@ -24,7 +24,7 @@ returns c =
     let entry = c .before .before .before .before .before .before .before in
     let meta-at = c .before .before .before .before .before .meta-at in
     c .push .ensures ∙ ap (onCore (enqueue _)) (c .before .before .set-meta .ensures)
-    ∙ publish-law (tableOf (entry .args .t .now)) (entry .args .s) _ (ap asRunnable (meta-at .ensures))
+    ∙ publish-law (tableOf (entry .args .t .now)) (entry .args .i) _ (ap asRunnable (meta-at .ensures))
 
 pub make-runnable-spec : {M : Type 1} → statement M
 make-runnable-spec = tie.close (tie.spec meta-at-requires set-meta-requires push-requires returns)

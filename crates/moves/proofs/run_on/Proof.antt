@@ -22,7 +22,7 @@ returns c =
     let entry = c .before .before .before .before .before .before .before in
     let meta-at = c .before .before .before .before .before .meta-at in
     c .set-hart .ensures ∙ ap (onCore (withHart _ _)) (c .before .before .set-meta .ensures)
-    ∙ hand-law (tableOf (entry .args .t .now)) (entry .args .s) _ (entry .args .h) (ap asRunning (meta-at .ensures))
+    ∙ hand-law (tableOf (entry .args .t .now)) (entry .args .i) _ (entry .args .hart) (ap asRunning (meta-at .ensures))
 
 pub run-on-spec : {M : Type 1} → statement M
 run-on-spec = tie.close (tie.spec meta-at-requires set-meta-requires set-hart-requires returns)

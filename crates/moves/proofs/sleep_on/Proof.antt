@@ -22,7 +22,7 @@ returns c =
     let entry = c .before .before .before .before .before .before .before in
     let idle = c .before .before .before .before .before .idle in
     let meta-at = c .before .before .before .meta-at in
-    let a = entry .args in c .set-meta .ensures ∙ stop-law (tableOf (a .t .now)) (a .h) (a .s) (idle .ensures) (asSleeping (a .channel)) _ (meta-at .ensures)
+    let a = entry .args in c .set-meta .ensures ∙ stop-law (tableOf (a .t .now)) (a .hart) (a .caller) (idle .ensures) (asSleeping (a .channel)) _ (meta-at .ensures)
 
 pub sleep-on-spec : {M : Type 1} → statement M
 sleep-on-spec = tie.close (tie.spec idle-requires meta-at-requires set-meta-requires returns)

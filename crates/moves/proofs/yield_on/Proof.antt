@@ -16,7 +16,7 @@ make-runnable-requires c κs =
 returns : tie.Need-returns
 returns c =
     let entry = c .before .before .before .before in
-    c .make-runnable .ensures ∙ yield-law (tableOf (entry .args .t .now)) (entry .args .h) (entry .args .s) (c .before .before .idle .ensures)
+    c .make-runnable .ensures ∙ yield-law (tableOf (entry .args .t .now)) (entry .args .hart) (entry .args .caller) (c .before .before .idle .ensures)
 
 pub yield-on-spec : {M : Type 1} → statement M
 yield-on-spec = tie.close (tie.spec idle-requires make-runnable-requires returns)

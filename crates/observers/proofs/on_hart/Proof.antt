@@ -7,7 +7,7 @@ use Rattle.observers.proofs.on_hart.Tie as tie
 
 returns : tie.Need-returns
 unfolding hartCount
-returns c = hart-past (c .before .args .t .now) (c .before .args .h) (c .if1 .taken)
+returns c = hart-past (c .before .args .t .now) (c .before .args .hart) (c .if1 .taken)
 
 hart-at-requires : tie.Need-hart-at-requires
 unfolding hartCount

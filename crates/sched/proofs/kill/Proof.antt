@@ -27,14 +27,14 @@ returns : tie.Need-returns
 returns c =
     let entry = c .before .before .before .before in
     let find = c .before .before .find in
-    did (entry .pre) (kill-no (tableOf (entry .args .t .now)) (entry .args .p) (find .result) (find .ensures .0) (cc))
+    did (entry .pre) (kill-no (tableOf (entry .args .t .now)) (entry .args .pid) (find .result) (find .ensures .0) (cc))
 
 returns-2 : tie.Need-returns-2
 returns-2 c =
     let entry = c .before .before .before .before .before .before .before in
     let find = c .before .before .before .before .before .find in
     let f = c .before .before .before .f in
-    did (entry .pre) (kill-is (tableOf (entry .args .t .now)) (entry .args .p) (find .result) (find .ensures .0) (sym (f .given .1)) (c .slay .ensures))
+    did (entry .pre) (kill-is (tableOf (entry .args .t .now)) (entry .args .pid) (find .result) (find .ensures .0) (sym (f .given .1)) (c .slay .ensures))
 
 pub kill-spec : {M : Type 1} → statement M
 kill-spec =

@@ -23,7 +23,7 @@ yield-on-requires c κs =
     let caller-on = c .before .before .before .before .caller-on in
     let c2 = c .before .before .c2 in
     let k = subst (InHart _) (c2 .given .1) (caller-on .ensures .1) in
-    (omega (arith, k .1), k .0, caller-room _ (entry .args .h) _ (entry .pre .queued) (sym (c2 .given .1) ∙ caller-on .ensures .0))
+    (omega (arith, k .1), k .0, caller-room _ (entry .args .hart) _ (entry .pre .queued) (sym (c2 .given .1) ∙ caller-on .ensures .0))
 
 returns : tie.Need-returns
 returns c =

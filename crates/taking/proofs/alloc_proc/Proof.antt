@@ -28,8 +28,8 @@ set-pids-requires c κs = search needs
 find-requires : tie.Need-find-requires
 find-requires c κs = search needs
 
-enum-known-s : tie.Need-enum-known-s
-enum-known-s c = search needs
+enum-known-i : tie.Need-enum-known-i
+enum-known-i c = search needs
 
 enum-told : tie.Need-enum-told
 enum-told c = search needs
@@ -56,9 +56,9 @@ returns-3 c =
     let set-pids = c .before .before .before .before .before .set-pids in
     let find = c .before .before .before .find in
     let k = take-slot (tableOf (entry .args .t .now)) {u = tableOf (set-pids .last .0)} (rw (pids .ensures) at (if1 .left))
-    (unused-found (tableOf (entry .args .t .now)) (tableOf (set-pids .last .0)) _ (find .result) (At _) (find .ensures .0) (set-pids .ensures) (c .before .s .given .1))
+    (unused-found (tableOf (entry .args .t .now)) (tableOf (set-pids .last .0)) _ (find .result) (At _) (find .ensures .0) (set-pids .ensures) (c .before .i .given .1))
     (set-pids .ensures ∙ ap (λ (n : ℕ). onBooks (withPids (n + 1)) (tableOf (entry .args .t .now))) (pids .ensures)) in
-    (k .0, k .1, subst InRange (c .before .s .given .1) (find .ensures .1))
+    (k .0, k .1, subst InRange (c .before .i .given .1) (find .ensures .1))
 
 pub alloc-proc-spec : {M : Type 1} → statement M
 alloc-proc-spec =
@@ -69,7 +69,7 @@ alloc-proc-spec =
     add-set-pids
     set-pids-requires
     find-requires
-    enum-known-s
+    enum-known-i
     enum-told
     returns-2
     returns-3)

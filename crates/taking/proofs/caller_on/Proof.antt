@@ -26,7 +26,7 @@ returns-2 : tie.Need-returns-2
 unfolding hartCount
 returns-2 c =
     let entry = c .before .before .before .before in
-    (caller-idle (tableOf (entry .args .t .now) .core) (entry .args .h) (omega arith) (cc), tt)
+    (caller-idle (tableOf (entry .args .t .now) .core) (entry .args .hart) (omega arith) (cc), tt)
 
 returns-3 : tie.Need-returns-3
 unfolding hartCount

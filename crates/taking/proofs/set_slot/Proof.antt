@@ -17,7 +17,7 @@ returns : tie.Need-returns
 returns c =
     let entry = c .before .before .before .before .before .before in
     let set-meta = c .before .before .before .before .set-meta in
-    rw (c .set-start .ensures, c .before .before .set-kin .ensures, set-meta .ensures) (parts-law (tableOf (entry .args .t .now)) (entry .args .s) _ _ _)
+    rw (c .set-start .ensures, c .before .before .set-kin .ensures, set-meta .ensures) (parts-law (tableOf (entry .args .t .now)) (entry .args .i) _ _ _)
 
 pub set-slot-spec : {M : Type 1} → statement M
 set-slot-spec = tie.close (tie.spec set-meta-requires set-kin-requires set-start-requires returns)

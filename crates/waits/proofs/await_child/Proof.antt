@@ -11,7 +11,7 @@ meta-at-requires c κs = search needs
 returns : tie.Need-returns
 returns c =
     let entry = c .before .before .before in
-    child-killed (tableOf (entry .args .t .now)) (entry .args .h) (entry .args .w) (entry .args .s) (c .before .meta-at .ensures) (c .if1 .taken)
+    child-killed (tableOf (entry .args .t .now)) (entry .args .hart) (entry .args .wish) (entry .args .caller) (c .before .meta-at .ensures) (c .if1 .taken)
 
 find-requires : tie.Need-find-requires
 find-requires c κs = search needs
@@ -26,7 +26,7 @@ returns-2 : tie.Need-returns-2
 returns-2 c =
     let entry = c .before .before .before .before .before .before .before in
     let find = c .before .before .find in
-    childless (tableOf (entry .args .t .now)) (entry .args .h) (entry .args .w) (entry .args .s) (find .result) (find .ensures .0) (cc)
+    childless (tableOf (entry .args .t .now)) (entry .args .hart) (entry .args .wish) (entry .args .caller) (find .result) (find .ensures .0) (cc)
 
 own-channel-requires : tie.Need-own-channel-requires
 own-channel-requires c κs = search needs
@@ -41,7 +41,7 @@ returns-3 c =
     let if1 = c .before .before .before .before .before .before .before .if1 in
     let find = c .before .before .before .before .before .find in
     let enum-told = c .before .before .before .enum-told in
-    let a = entry .args in child-awaited (tableOf (a .t .now)) (a .h) (a .w) (a .s) (find .result) (find .ensures .0) (sym (enum-told .given .1)) (meta-at .ensures) (if1 .left) (rw (c .before .own-channel .ensures) at (c .sleep-on .ensures))
+    let a = entry .args in child-awaited (tableOf (a .t .now)) (a .hart) (a .wish) (a .caller) (find .result) (find .ensures .0) (sym (enum-told .given .1)) (meta-at .ensures) (if1 .left) (rw (c .before .own-channel .ensures) at (c .sleep-on .ensures))
 
 pub await-child-spec : {M : Type 1} → statement M
 await-child-spec =

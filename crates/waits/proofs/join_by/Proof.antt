@@ -20,7 +20,7 @@ enum-told c = search needs
 returns : tie.Need-returns
 returns c =
     let entry = c .before .before .before .before in
-    by-alone (tableOf (entry .args .t .now)) (entry .args .h) (entry .args .p) (entry .args .w) (entry .args .s) ((cc) ∙ ap (λ (k : Kin). k .group) (c .before .before .kin-at .ensures .0))
+    by-alone (tableOf (entry .args .t .now)) (entry .args .hart) (entry .args .pid) (entry .args .wish) (entry .args .caller) ((cc) ∙ ap (λ (k : Kin). k .group) (c .before .before .kin-at .ensures .0))
 
 meta-at-requires : tie.Need-meta-at-requires
 meta-at-requires c κs = search needs
@@ -31,7 +31,7 @@ returns-2 c =
     let kin-at = c .before .before .before .before .before .before .before .before .before .kin-at in
     let group = c .before .before .before .before .before .before .before .group in
     let meta-at = c .before .before .before .before .meta-at in
-    by-itself (tableOf (entry .args .t .now)) (entry .args .h) (entry .args .p) (entry .args .w) (entry .args .s) (sym (group .given .1) ∙ ap (λ (k : Kin). k .group) (kin-at .ensures .0)) (meta-at .ensures) (c .if1 .taken)
+    by-itself (tableOf (entry .args .t .now)) (entry .args .hart) (entry .args .pid) (entry .args .wish) (entry .args .caller) (sym (group .given .1) ∙ ap (λ (k : Kin). k .group) (kin-at .ensures .0)) (meta-at .ensures) (c .if1 .taken)
 
 find-requires : tie.Need-find-requires
 find-requires c κs = search needs
@@ -56,7 +56,7 @@ returns-3 c =
     let meta-at = c .before .before .before .before .before .before .before .before .meta-at in
     let if1 = c .before .before .before .before .if1 in
     let find = c .before .before .find in
-    by-none (tableOf (entry .args .t .now)) (entry .args .h) (entry .args .p) (entry .args .w) (entry .args .s) (sym (group .given .1) ∙ ap (λ (k : Kin). k .group) (kin-at .ensures .0)) (meta-at .ensures) (ne-eqb _ _ (if1 .left)) (find .result) (find .ensures .0) (cc)
+    by-none (tableOf (entry .args .t .now)) (entry .args .hart) (entry .args .pid) (entry .args .wish) (entry .args .caller) (sym (group .given .1) ∙ ap (λ (k : Kin). k .group) (kin-at .ensures .0)) (meta-at .ensures) (ne-eqb _ _ (if1 .left)) (find .result) (find .ensures .0) (cc)
 
 returns-4 : tie.Need-returns-4
 returns-4 c =
@@ -67,7 +67,7 @@ returns-4 c =
     let if1 = c .before .before .before .before .before .before .before .if1 in
     let find = c .before .before .before .before .before .find in
     let i = c .before .before .before .i in
-    by-thread (tableOf (entry .args .t .now)) (entry .args .h) (entry .args .p) (entry .args .w) (entry .args .s) (sym (group .given .1) ∙ ap (λ (k : Kin). k .group) (kin-at .ensures .0)) (meta-at .ensures) (ne-eqb _ _ (if1 .left)) (find .result) (find .ensures .0) (sym (i .given .1)) (c .join-to .ensures)
+    by-thread (tableOf (entry .args .t .now)) (entry .args .hart) (entry .args .pid) (entry .args .wish) (entry .args .caller) (sym (group .given .1) ∙ ap (λ (k : Kin). k .group) (kin-at .ensures .0)) (meta-at .ensures) (ne-eqb _ _ (if1 .left)) (find .result) (find .ensures .0) (sym (i .given .1)) (c .join-to .ensures)
 
 pub join-by-spec : {M : Type 1} → statement M
 join-by-spec =

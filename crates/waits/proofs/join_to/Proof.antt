@@ -19,7 +19,7 @@ returns : tie.Need-returns
 returns c =
     let entry = c .before .before .before .before .before in
     let is = c .before .before .before .is in
-    thread-unwritable (tableOf (entry .args .t .now)) (entry .args .h) (entry .args .w) (entry .args .s) (entry .args .i) (sym (is .ensures) ∙ c .before .before .if1 .taken) (sym (c .before .unwritable .ensures) ∙ c .if2 .taken)
+    thread-unwritable (tableOf (entry .args .t .now)) (entry .args .hart) (entry .args .wish) (entry .args .caller) (entry .args .i) (sym (is .ensures) ∙ c .before .before .if1 .taken) (sym (c .before .unwritable .ensures) ∙ c .if2 .taken)
 
 meta-at-requires : tie.Need-meta-at-requires
 meta-at-requires c κs = search needs
@@ -38,7 +38,7 @@ returns-2 c =
     let unwritable = c .before .before .before .before .before .before .unwritable in
     let if2 = c .before .before .before .before .before .if2 in
     let meta-at = c .before .before .before .meta-at in
-    let e = c .signed .ensures in thread-joined (tableOf (entry .args .t .now)) (entry .args .h) (entry .args .w) (entry .args .s) (entry .args .i) (sym (is .ensures) ∙ if1 .taken) (sym (unwritable .ensures) ∙ if2 .left) (meta-at .ensures)
+    let e = c .signed .ensures in thread-joined (tableOf (entry .args .t .now)) (entry .args .hart) (entry .args .wish) (entry .args .caller) (entry .args .i) (sym (is .ensures) ∙ if1 .taken) (sym (unwritable .ensures) ∙ if2 .left) (meta-at .ensures)
     (toZ-ofZ (subst (SFits w32) (sym e) (signed-fits (meta-at .result .xstate))) ∙ e) (c .before .free-proc .ensures)
 
 own-channel-requires : tie.Need-own-channel-requires
@@ -52,7 +52,7 @@ returns-3 c =
     let entry = c .before .before .before .before .before .before in
     let is = c .before .before .before .before .is in
     let if1 = c .before .before .before .if1 in
-    let a = entry .args in thread-awaited (tableOf (a .t .now)) (a .h) (a .w) (a .s) (a .i) (sym (is .ensures) ∙ if1 .left) (rw (c .before .own-channel .ensures) at (c .sleep-on .ensures))
+    let a = entry .args in thread-awaited (tableOf (a .t .now)) (a .hart) (a .wish) (a .caller) (a .i) (sym (is .ensures) ∙ if1 .left) (rw (c .before .own-channel .ensures) at (c .sleep-on .ensures))
 
 pub join-to-spec : {M : Type 1} → statement M
 join-to-spec =

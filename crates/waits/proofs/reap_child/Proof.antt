@@ -11,7 +11,7 @@ unwritable-requires c κs = search needs
 returns : tie.Need-returns
 returns c =
     let entry = c .before .before in
-    child-unwritable (tableOf (entry .args .t .now)) (entry .args .h) (entry .args .w) (entry .args .s) (entry .args .i) (sym (c .before .unwritable .ensures) ∙ c .if1 .taken)
+    child-unwritable (tableOf (entry .args .t .now)) (entry .args .hart) (entry .args .wish) (entry .args .caller) (entry .args .i) (sym (c .before .unwritable .ensures) ∙ c .if1 .taken)
 
 meta-at-requires : tie.Need-meta-at-requires
 meta-at-requires c κs = search needs
@@ -25,7 +25,7 @@ returns-2 c =
     let unwritable = c .before .before .before .before .before .before .unwritable in
     let if1 = c .before .before .before .before .before .if1 in
     let meta-at = c .before .before .before .meta-at in
-    child-reaped (tableOf (entry .args .t .now)) (entry .args .h) (entry .args .w) (entry .args .s) (entry .args .i) (sym (unwritable .ensures) ∙ if1 .left) (meta-at .ensures) (c .free-proc .ensures)
+    child-reaped (tableOf (entry .args .t .now)) (entry .args .hart) (entry .args .wish) (entry .args .caller) (entry .args .i) (sym (unwritable .ensures) ∙ if1 .left) (meta-at .ensures) (c .free-proc .ensures)
 
 pub reap-child-spec : {M : Type 1} → statement M
 reap-child-spec =

@@ -11,7 +11,7 @@ cast-result : tie.Need-cast-result
 cast-result c = search needs
 
 returns : tie.Need-returns
-returns c = signed-low (c .before .args .x) (c .if1 .taken)
+returns c = signed-low (c .before .args .status) (c .if1 .taken)
 
 sub-result : tie.Need-sub-result
 sub-result c = search needs
@@ -20,10 +20,10 @@ cast-result-2 : tie.Need-cast-result-2
 cast-result-2 c = search needs
 
 sub-result-2 : tie.Need-sub-result-2
-sub-result-2 c = subst (SFits w32) (sym (signed-high (c .before .args .x) (c .if1 .left))) (signed-fits (c .before .args .x))
+sub-result-2 c = subst (SFits w32) (sym (signed-high (c .before .args .status) (c .if1 .left))) (signed-fits (c .before .args .status))
 
 returns-2 : tie.Need-returns-2
-returns-2 c = let e = signed-high (c .before .args .x) (c .if1 .left) in toZ-ofZ (subst (SFits w32) (sym e) (signed-fits (c .before .args .x))) ∙ e
+returns-2 c = let e = signed-high (c .before .args .status) (c .if1 .left) in toZ-ofZ (subst (SFits w32) (sym e) (signed-fits (c .before .args .status))) ∙ e
 
 pub signed-spec : {M : Type 1} → statement M
 signed-spec =

@@ -17,7 +17,7 @@ enum-told c = search needs
 returns : tie.Need-returns
 returns c =
     let entry = c .before .before .before .before in
-    hand-none (entry .args .init) (entry .args .s) (entry .args .i) (tableOf (entry .args .t .now)) (cc)
+    hand-none (entry .args .init) (entry .args .caller) (entry .args .i) (tableOf (entry .args .t .now)) (cc)
 
 adopt-requires : tie.Need-adopt-requires
 adopt-requires c κs = search needs
@@ -25,12 +25,12 @@ adopt-requires c κs = search needs
 returns-2 : tie.Need-returns-2
 returns-2 c =
     let entry = c .before .before .before .before .before .before .before .before .before in
-    c .adopt .ensures ∙ hand-this (entry .args .init) (entry .args .s) (entry .args .i) (tableOf (entry .args .t .now)) (c .before .before .if1 .taken) (cc)
+    c .adopt .ensures ∙ hand-this (entry .args .init) (entry .args .caller) (entry .args .i) (tableOf (entry .args .t .now)) (c .before .before .if1 .taken) (cc)
 
 returns-3 : tie.Need-returns-3
 returns-3 c =
     let entry = c .before .before .before .before .before .before .before in
-    hand-other (entry .args .init) (entry .args .s) (entry .args .i) (tableOf (entry .args .t .now)) (c .if1 .left) (cc)
+    hand-other (entry .args .init) (entry .args .caller) (entry .args .i) (tableOf (entry .args .t .now)) (c .if1 .left) (cc)
 
 pub hand-over-spec : {M : Type 1} → statement M
 hand-over-spec =
