@@ -7,7 +7,6 @@ ghost use Rattle.rules.specs.Moves.{publish, idle, hand, yieldOn, sleepOn, zomb
 ghost use Rattle.promises.specs.Order.Chains.{onCore};
 ghost use Rattle.words.specs.Reading.{tableOf};
 use rules::Parent;
-use rules::ProcMeta;
 use rules::ProcState;
 use rules::Slot;
 use words::Table;
@@ -28,42 +27,19 @@ pub fn make_runnable(t: &mut [u64; Table::WORDS], i: usize)
     requires { ⌜ (i < slotCount) × (length (tableOf (now t) .core .queue) < slotCount) ⌝ }
     ensures { λ _. ⌜ tableOf (now (t .exit)) ≡ onCore (publish i) (tableOf (now (t .entry))) ⌝ }
 {
-    let m = slot::meta_at(t, i);
-    let pid = m.pid;
-    slot::set_meta(
-        t,
-        i,
-        ProcMeta {
-            state: ProcState::RUNNABLE,
-            channel: m.channel,
-            killed: m.killed,
-            xstate: m.xstate,
-            pid,
-            queued: true,
-        },
-    );
+    slot::set_state(t, i, ProcState::RUNNABLE);
+    slot::set_queued(t, i, true);
     queue::push(t, i);
 }
 
-// Slot s, which just left the queue's head, runs on hart h.
+// Slot i, which just left the queue's head, runs on the hart.
 pub fn run_on(t: &mut [u64; Table::WORDS], hart: usize, i: usize)
     requires { ⌜ (hart < hartCount) × (i < slotCount) ⌝ }
     ensures { λ _. ⌜ tableOf (now (t .exit)) ≡ onCore (λ c. hand hart i (c .queue) c) (tableOf (now (t .entry))) ⌝ }
 {
-    let m = slot::meta_at(t, i);
-    let pid = m.pid;
-    slot::set_meta(
-        t,
-        i,
-        ProcMeta {
-            state: ProcState::RUNNING,
-            channel: 0,
-            killed: m.killed,
-            xstate: m.xstate,
-            pid,
-            queued: false,
-        },
-    );
+    slot::set_state(t, i, ProcState::RUNNING);
+    slot::set_channel(t, i, 0);
+    slot::set_queued(t, i, false);
     book::set_hart(t, hart, Parent::Of(Slot(i)));
 }
 
@@ -87,20 +63,8 @@ pub fn sleep_on(t: &mut [u64; Table::WORDS], hart: usize, caller: usize, channel
     ensures { λ _. ⌜ tableOf (now (t .exit)) ≡ onCore (sleepOn hart caller channel) (tableOf (now (t .entry))) ⌝ }
 {
     idle(t, hart);
-    let m = slot::meta_at(t, caller);
-    let pid = m.pid;
-    slot::set_meta(
-        t,
-        caller,
-        ProcMeta {
-            state: ProcState::SLEEPING,
-            channel,
-            killed: m.killed,
-            xstate: m.xstate,
-            pid,
-            queued: m.queued,
-        },
-    );
+    slot::set_channel(t, caller, channel);
+    slot::set_state(t, caller, ProcState::SLEEPING);
 }
 
 pub fn zombie_on(t: &mut [u64; Table::WORDS], hart: usize, caller: usize, status: u64)
@@ -108,18 +72,6 @@ pub fn zombie_on(t: &mut [u64; Table::WORDS], hart: usize, caller: usize, status
     ensures { λ _. ⌜ tableOf (now (t .exit)) ≡ onCore (zombieOn hart caller status) (tableOf (now (t .entry))) ⌝ }
 {
     idle(t, hart);
-    let m = slot::meta_at(t, caller);
-    let pid = m.pid;
-    slot::set_meta(
-        t,
-        caller,
-        ProcMeta {
-            state: ProcState::ZOMBIE,
-            channel: m.channel,
-            killed: m.killed,
-            xstate: status,
-            pid,
-            queued: m.queued,
-        },
-    );
+    slot::set_xstate(t, caller, status);
+    slot::set_state(t, caller, ProcState::ZOMBIE);
 }

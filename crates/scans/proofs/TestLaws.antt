@@ -10,28 +10,27 @@ use Rattle.rules.specs.declared.ProcState.the-variants.{UNUSED, ZOMBIE}
 use Rattle.rules.specs.declared.Parent.the-variants.{Nobody, Of}
 use Rattle.rules.specs.declared.Member.{Member}
 use Rattle.rules.specs.declared.Member.the-variants.{Alone, In}
-use Rattle.rules.specs.declared.ProcMeta.{ProcMeta}
 use Rattle.rules.specs.declared.Process.{Process}
 use Rattle.rules.specs.Model.{is}
 use Rattle.rules.specs.Calls.{hasPid, childOf, zombieChildOf, threadOf, threadNamed}
 use Rattle.promises.specs.Laws.Bools.{and-no, and-yes}
 
-module _ (n : Pid) (p : Process) {m : ProcMeta} (f : m ≡ p .meta) where
-  pub pid-other : (m .pid .0 ≡ n .0 → ⊥) → false ≡ hasPid n p
+module _ (n : Pid) (p : Process) {q : Pid} (f : q ≡ p .meta .pid) where
+  pub pid-other : (q .0 ≡ n .0 → ⊥) → false ≡ hasPid n p
   unfolding hasPid
-  pid-other d = sym (and-no (not (is UNUSED p)) (ap (λ (k : ProcMeta). eqb (k .pid .0) (n .0)) (sym f) ∙ ne-eqb (m .pid .0) (n .0) d))
+  pid-other d = sym (and-no (not (is UNUSED p)) (ap (λ (k : Pid). eqb (k .0) (n .0)) (sym f) ∙ ne-eqb (q .0) (n .0) d))
 
-  pub pid-same : {b : Bool} → m .pid .0 ≡ n .0 → b ≡ is UNUSED p → not b ≡ hasPid n p
+  pub pid-same : {b : Bool} → q .0 ≡ n .0 → b ≡ is UNUSED p → not b ≡ hasPid n p
   unfolding hasPid
-  pid-same e g = ap not g ∙ sym (and-yes (not (is UNUSED p)) (ap (λ (k : ProcMeta). eqb (k .pid .0) (n .0)) (sym f) ∙ eq-eqb (m .pid .0) (n .0) e))
+  pid-same e g = ap not g ∙ sym (and-yes (not (is UNUSED p)) (ap (λ (k : Pid). eqb (k .0) (n .0)) (sym f) ∙ eq-eqb (q .0) (n .0) e))
 
-  pub named-other : (g : Member) → (m .pid .0 ≡ n .0 → ⊥) → false ≡ threadNamed n g p
+  pub named-other : (g : Member) → (q .0 ≡ n .0 → ⊥) → false ≡ threadNamed n g p
   unfolding threadNamed
-  named-other g d = sym (and-no (threadOf g p) (ap (λ (k : ProcMeta). eqb (k .pid .0) (n .0)) (sym f) ∙ ne-eqb (m .pid .0) (n .0) d))
+  named-other g d = sym (and-no (threadOf g p) (ap (λ (k : Pid). eqb (k .0) (n .0)) (sym f) ∙ ne-eqb (q .0) (n .0) d))
 
-  pub named-thread : (g : Member) {b : Bool} → m .pid .0 ≡ n .0 → b ≡ threadOf g p → b ≡ threadNamed n g p
+  pub named-thread : (g : Member) {b : Bool} → q .0 ≡ n .0 → b ≡ threadOf g p → b ≡ threadNamed n g p
   unfolding threadNamed
-  named-thread g e h = h ∙ sym (and-yes (threadOf g p) (ap (λ (k : ProcMeta). eqb (k .pid .0) (n .0)) (sym f) ∙ eq-eqb (m .pid .0) (n .0) e))
+  named-thread g e h = h ∙ sym (and-yes (threadOf g p) (ap (λ (k : Pid). eqb (k .0) (n .0)) (sym f) ∙ eq-eqb (q .0) (n .0) e))
 
 module _ (s : ℕ) (p : Process) where
   pub child-none : p .kin .parent ≡ Nobody → false ≡ childOf s p

@@ -35,8 +35,7 @@ pub fn is(t: &[u64; Table::WORDS], i: usize, a: ProcState) -> bool
     requires { ⌜ i < slotCount ⌝ }
     ensures { λ r. ⌜ r ≡ is a (at (tableOf (now (t .entry)) .core) i) ⌝ }
 {
-    let m = slot::meta_at(t, i);
-    let state = m.state;
+    let state = slot::state_at(t, i);
     word::state_code(a) == word::state_code(state)
 }
 
@@ -45,8 +44,7 @@ fn has_pid(t: &[u64; Table::WORDS], p: Pid, i: usize) -> bool
     requires { ⌜ i < slotCount ⌝ }
     ensures { λ r. ⌜ r ≡ hasPid p (at (tableOf (now (t .entry)) .core) i) ⌝ }
 {
-    let m = slot::meta_at(t, i);
-    let pid = m.pid;
+    let pid = slot::pid_at(t, i);
     if pid.0 != p.0 {
         return false;
     }
@@ -100,8 +98,7 @@ fn thread_named(t: &[u64; Table::WORDS], p: Pid, m: Member, i: usize) -> bool
     requires { ⌜ i < slotCount ⌝ }
     ensures { λ r. ⌜ r ≡ threadNamed p m (at (tableOf (now (t .entry)) .core) i) ⌝ }
 {
-    let n = slot::meta_at(t, i);
-    let pid = n.pid;
+    let pid = slot::pid_at(t, i);
     if pid.0 != p.0 {
         return false;
     }

@@ -1,34 +1,29 @@
 -- A caller, a slot taken, groups and a slot freed, as the code goes through them.
-use Prim.Native.Nat.{ℕ, zero, suc, _+_, _-_, _≤_, _<_}
+use Prim.Native.Nat.{ℕ, _+_, _-_, _≤_, _<_}
 use mathlib.Core.Path.{_≡_, refl, sym, ap, _∙_}
 use mathlib.Core.Bool.{false}
-use mathlib.Core.List.{List, [], _∷_}
 use mathlib.Core.Option.{none, some}
-use lib.ListN.{getD, set}
 use borrow.Author.Tests.{le-leb, lt-leb}
 use Rattle.rules.specs.declared.Slot.{Slot}
 use Rattle.rules.specs.declared.ProcState.the-variants.{UNUSED}
 use Rattle.rules.specs.declared.Parent.the-variants.{Nobody, Of}
 use Rattle.rules.specs.declared.Member.{Member}
 use Rattle.rules.specs.declared.Member.the-variants.{Alone, In}
-use Rattle.rules.specs.declared.ProcMeta.{ProcMeta}
-use Rattle.rules.specs.declared.Kin.{Kin}
-use Rattle.rules.specs.declared.Start.{Start}
 use Rattle.rules.specs.declared.Process.{Process}
 use Rattle.rules.specs.declared.Group.{Group}
 use Rattle.rules.specs.declared.Refusal.the-variants.{NoSuchHart, HartIdle, TableFull, PidsSpent}
 use Rattle.rules.specs.Sizes.{hartCount, pidTop, trapframe, trampoline, pageSize, nameSize}
 use Rattle.rules.specs.Model.{Core, Table, at, hartAt, groupAt, noGroup, free, taken, is, pid}
 use Rattle.rules.specs.Moves.{change, lowest, setGroup, joinGroup, less, leaveGroup, spend, reap}
-use Rattle.rules.specs.Calls.{fill, spent}
+use Rattle.rules.specs.Calls.{spent}
 use Rattle.promises.specs.Order.Chains.{onCore}
 use Rattle.words.specs.Reading.{startOf, bytesOf, tab, tabFrom}
-use Rattle.words.specs.Effects.{onBooks, withMeta, withKin, withStart, withPids}
+use Rattle.words.specs.Effects.{onBooks, withPids}
 use Rattle.scans.specs.declared.Found.{Found}
 use Rattle.scans.specs.declared.Test.the-variants.{Unused}
 use Rattle.scans.specs.Tests.{passes, asOption}
 use Rattle.taking.specs.declared.Got.the-variants.{No, Is}
-use Rattle.taking.specs.Parts.{callerOf, takenOf, afterTake, slotOf}
+use Rattle.taking.specs.Parts.{callerOf, takenOf, afterTake}
 
 -- ---- the caller
 module _ (c : Core) (h : ℕ) where
@@ -65,21 +60,7 @@ pub unused-found : (t u : Table) (n : ℕ) (r x : Found) → asOption r ≡ lowe
 unfolding passes onBooks withPids
 unused-found t u n r x e f g = ap (λ (v : Table). lowest (is UNUSED) (v .core .slots)) (sym f) ∙ sym e ∙ ap (λ (y : Found). asOption y) g
 
--- ---- a slot's three parts, all set
-set-twice : (f g : Process → Process) (l : List Process) (s : ℕ) → set (set l s (f (getD l s free))) s (g (getD (set l s (f (getD l s free))) s free)) ≡ set l s (g (f (getD l s free)))
-set-twice f g [] s = refl
-set-twice f g (x ∷ l) zero = refl
-set-twice f g (x ∷ l) (suc s) = ap (λ (r : List Process). x ∷ r) (set-twice f g l s)
-
-fuse : (f g : Process → Process) (s : ℕ) (t : Table) → onCore (change g s) (onCore (change f s) t) ≡ onCore (change (λ p. g (f p)) s) t
-unfolding change onCore
-fuse f g s t = ap (λ (l : List Process). onCore (λ c. record { slots = l; queue = c .queue; harts = c .harts }) t) (set-twice f g (t .core .slots) s)
-
-pub parts-law : (t : Table) (s : ℕ) (m : ProcMeta) (k : Kin) (b : Start)
-    → onCore (change (withStart b) s) (onCore (change (withKin k) s) (onCore (change (withMeta m) s) t)) ≡ onCore (fill s (slotOf m k b)) t
-unfolding fill
-parts-law t s m k b = ap (onCore (change (withStart b) s)) (fuse (withMeta m) (withKin k) s t) ∙ fuse (λ p. withKin k (withMeta m p)) (withStart b) s t
-
+-- ---- a slot freed
 pub free-is : _≡_ {A = Process} (record {
   meta = record { state = UNUSED; channel = 0; killed = false; xstate = 0; pid = pid 0; queued = false };
   kin = record { group = Alone; parent = Nobody; thread = false; system = false };

@@ -9,7 +9,6 @@ use Rattle.rules.specs.declared.Slot.{Slot}
 use Rattle.rules.specs.declared.ProcState.the-variants.{UNUSED, RUNNABLE, SLEEPING}
 use Rattle.rules.specs.declared.Parent.{Parent}
 use Rattle.rules.specs.declared.Parent.the-variants.{Nobody, Of}
-use Rattle.rules.specs.declared.Kin.{Kin}
 use Prim.Native.Nat.{_<_}
 use lib.ListN.{length}
 use Rattle.rules.specs.Sizes.{slotCount, ownChannel}
@@ -21,7 +20,6 @@ use Rattle.promises.specs.Order.States.{other}
 use Rattle.promises.specs.Order.Room.{queue-room}
 use Rattle.promises.specs.Order.Chains.{onCore}
 use Rattle.promises.specs.Order.QueuedKept.{parent-queued}
-use Rattle.words.specs.Effects.{withKin}
 
 -- a sleeper finds room in the queue
 pub room-asleep : (c : Core) (s : ℕ) → Queued c → is SLEEPING (at c s) ≡ true → length (c .queue) < slotCount
@@ -84,11 +82,6 @@ module _ (t : Table) (s : ℕ) where
   slay-awake e = rw e
 
 -- ---- reparent
-pub kin-change : (t : Table) (i : ℕ) (k : Kin) (q : Parent) → k ≡ record { group = at (t .core) i .kin .group; parent = q; thread = at (t .core) i .kin .thread; system = at (t .core) i .kin .system }
-    → onCore (change (withKin k) i) t ≡ onCore (change (withParent q) i) t
-unfolding change onCore
-kin-change t i k q e = rw e
-
 pub adopt-law : (t : Table) (i : ℕ) (q : Parent) {u : Table} → u ≡ onCore (change (withParent q) i) t → onCore (wakeOf q) u ≡ onCore (λ c. wakeOf q (change (withParent q) i c)) t
 unfolding onCore
 adopt-law t i q e = ap (onCore (wakeOf q)) e

@@ -7,9 +7,7 @@ ghost use Rattle.rules.specs.Moves.{change, wakeOne, wake, wakeOf, slay, handOv
 ghost use Rattle.promises.specs.Order.Sound.{Queued};
 ghost use Rattle.promises.specs.Order.Chains.{onCore};
 ghost use Rattle.words.specs.Reading.{tableOf, InTable};
-use rules::Kin;
 use rules::Parent;
-use rules::ProcMeta;
 use rules::ProcState;
 use words::Table;
 use words::book;
@@ -20,8 +18,7 @@ fn wake_one(t: &mut [u64; Table::WORDS], i: usize, channel: u64)
     ensures { λ _. ⌜ tableOf (now (t .exit)) ≡ onCore (wakeOne channel i) (tableOf (now (t .entry))) ⌝ }
 {
     if scans::is(t, i, ProcState::SLEEPING) {
-        let m = slot::meta_at(t, i);
-        if m.channel == channel {
+        if slot::channel_at(t, i) == channel {
             moves::make_runnable(t, i);
         }
     }
@@ -58,21 +55,7 @@ pub fn slay(t: &mut [u64; Table::WORDS], i: usize)
     ensures { λ _. ⌜ tableOf (now (t .exit)) ≡ onCore (slay i) (tableOf (now (t .entry))) ⌝ }
 {
     let asleep = scans::is(t, i, ProcState::SLEEPING);
-    let m = slot::meta_at(t, i);
-    let state = m.state;
-    let pid = m.pid;
-    slot::set_meta(
-        t,
-        i,
-        ProcMeta {
-            state,
-            channel: m.channel,
-            killed: true,
-            xstate: m.xstate,
-            pid,
-            queued: m.queued,
-        },
-    );
+    slot::set_killed(t, i, true);
     if asleep {
         moves::make_runnable(t, i);
     }
@@ -82,18 +65,7 @@ fn adopt(t: &mut [u64; Table::WORDS], init: Parent, i: usize)
     requires { ⌜ (i < slotCount) × InTable init × Queued (tableOf (now t) .core) ⌝ }
     ensures { λ _. ⌜ tableOf (now (t .exit)) ≡ onCore (λ c. wakeOf init (change (withParent init) i c)) (tableOf (now (t .entry))) ⌝ }
 {
-    let k = slot::kin_at(t, i);
-    let group = k.group;
-    slot::set_kin(
-        t,
-        i,
-        Kin {
-            group,
-            parent: init,
-            thread: k.thread,
-            system: k.system,
-        },
-    );
+    slot::set_parent(t, i, init);
     wake_of(t, init);
 }
 
@@ -101,8 +73,7 @@ fn hand_over(t: &mut [u64; Table::WORDS], init: Parent, caller: usize, i: usize)
     requires { ⌜ (i < slotCount) × InTable init × Queued (tableOf (now t) .core) ⌝ }
     ensures { λ _. ⌜ tableOf (now (t .exit)) ≡ onCore (handOver init caller i) (tableOf (now (t .entry))) ⌝ }
 {
-    let k = slot::kin_at(t, i);
-    let parent = k.parent;
+    let parent = slot::parent_at(t, i);
     let Parent::Of(p) = parent else {
         return;
     };

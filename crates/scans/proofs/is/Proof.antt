@@ -2,8 +2,8 @@ use borrow.Author.Needs.{needs}
 use Rattle.scans.proofs.is.Statement.{statement}
 use Rattle.scans.proofs.is.Tie as tie
 
-meta-at-requires : tie.Need-meta-at-requires
-meta-at-requires c κs = search needs
+state-at-requires : tie.Need-state-at-requires
+state-at-requires c κs = search needs
 
 state-code-requires : tie.Need-state-code-requires
 state-code-requires c κs = search needs
@@ -15,4 +15,4 @@ returns : tie.Need-returns
 returns c = cc
 
 pub is-spec : {M : Type 1} → statement M
-is-spec = tie.close (tie.spec meta-at-requires state-code-requires state-code-requires-2 returns)
+is-spec = tie.close (tie.spec state-at-requires state-code-requires state-code-requires-2 returns)

@@ -3,21 +3,21 @@ use borrow.Author.Needs.{needs}
 use Rattle.scans.proofs.thread_named.Statement.{statement}
 use Rattle.scans.proofs.thread_named.Tie as tie
 
-meta-at-requires : tie.Need-meta-at-requires
-meta-at-requires c κs = search needs
+pid-at-requires : tie.Need-pid-at-requires
+pid-at-requires c κs = search needs
 
 returns : tie.Need-returns
 returns c =
-    let meta-at = c .before .before .before .before .meta-at in
-    named-other _ _ (meta-at .ensures) _ (c .if1 .taken)
+    let pid-at = c .before .before .before .pid-at in
+    named-other _ _ (pid-at .ensures) _ (c .if1 .taken)
 
 thread-of-requires : tie.Need-thread-of-requires
 thread-of-requires c κs = search needs
 
 returns-2 : tie.Need-returns-2
 returns-2 c =
-    let meta-at = c .before .before .before .before .before .meta-at in
-    named-thread _ _ (meta-at .ensures) _ (c .before .if1 .left) (c .thread-of .ensures)
+    let pid-at = c .before .before .before .before .pid-at in
+    named-thread _ _ (pid-at .ensures) _ (c .before .if1 .left) (c .thread-of .ensures)
 
 pub thread-named-spec : {M : Type 1} → statement M
-thread-named-spec = tie.close (tie.spec meta-at-requires returns thread-of-requires returns-2)
+thread-named-spec = tie.close (tie.spec pid-at-requires returns thread-of-requires returns-2)

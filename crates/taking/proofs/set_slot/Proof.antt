@@ -1,4 +1,5 @@
-use Rattle.taking.proofs.TakeLaws.{parts-law}
+use Rattle.rules.specs.Calls.{fill}
+use Rattle.words.proofs.Changes.{change-then}
 use Rattle.words.specs.Reading.{tableOf}
 use borrow.Author.Needs.{needs}
 use Rattle.taking.proofs.set_slot.Statement.{statement}
@@ -14,10 +15,13 @@ set-start-requires : tie.Need-set-start-requires
 set-start-requires c κs = search needs
 
 returns : tie.Need-returns
+unfolding fill
 returns c =
     let entry = c .before .before .before .before .before .before in
     let set-meta = c .before .before .before .before .set-meta in
-    rw (c .set-start .ensures, c .before .before .set-kin .ensures, set-meta .ensures) (parts-law (tableOf (entry .args .t .now)) (entry .args .i) _ _ _)
+    let i = entry .args .i in
+    let t = tableOf (entry .args .t .now) in
+    change-then _ _ i t (change-then _ _ i t (set-meta .ensures) (c .before .before .set-kin .ensures)) (c .set-start .ensures)
 
 pub set-slot-spec : {M : Type 1} → statement M
 set-slot-spec = tie.close (tie.spec set-meta-requires set-kin-requires set-start-requires returns)

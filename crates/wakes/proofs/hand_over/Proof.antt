@@ -5,8 +5,8 @@ use borrow.Author.Needs.{needs}
 use Rattle.wakes.proofs.hand_over.Statement.{statement}
 use Rattle.wakes.proofs.hand_over.Tie as tie
 
-kin-at-requires : tie.Need-kin-at-requires
-kin-at-requires c κs = search needs
+parent-at-requires : tie.Need-parent-at-requires
+parent-at-requires c κs = search needs
 
 enum-known-parent : tie.Need-enum-known-parent
 enum-known-parent c = search needs
@@ -36,7 +36,7 @@ pub hand-over-spec : {M : Type 1} → statement M
 hand-over-spec =
     tie.close
     (tie.spec
-    kin-at-requires
+    parent-at-requires
     enum-known-parent
     enum-told
     returns

@@ -32,8 +32,12 @@ returns c =
     let member-of = c .before .before .before .before .before .member-of in
     let parent-at = c .before .before .before .before .parent-at in
     let get2 = c .before .before .before .get2 in
-    let entry = c .before .before .before .before .before .before .before in
-    (rw (c .flag-of2 .ensures, c .before .get3 .ensures, c .before .before .flag-of .ensures, get2 .ensures, parent-at .ensures .0, member-of .ensures .0, get .ensures, at-row (entry .args .t .now) (entry .args .s) (entry .pre)), member-of .ensures .1, parent-at .ensures .1)
+    let entry = c .before .before .before .before .before .before .before in (
+      rw (c .flag-of2 .ensures, c .before .get3 .ensures, c .before .before .flag-of .ensures, get2 .ensures, parent-at .ensures .0, member-of .ensures .0, get .ensures)
+          (rw (at-row (entry .args .t .now) (entry .args .s) (entry .pre))),
+      member-of .ensures .1,
+      parent-at .ensures .1,
+    )
 
 pub kin-at-spec : {M : Type 1} → statement M
 kin-at-spec =

@@ -37,7 +37,8 @@ returns c =
     let flag-of = c .before .before .before .before .flag-of in
     let get2 = c .before .before .before .get2 in
     let entry = c .before .before .before .before .before .before .before .before in
-    rw (c .flag-of2 .ensures, c .before .get3 .ensures, c .before .before .pid-at .ensures, get2 .ensures, flag-of .ensures, get .ensures, channel-at .ensures, state-at .ensures, at-row (entry .args .t .now) (entry .args .s) (entry .pre))
+    rw (c .flag-of2 .ensures, c .before .get3 .ensures, c .before .before .pid-at .ensures, get2 .ensures, flag-of .ensures, get .ensures, channel-at .ensures, state-at .ensures)
+    (rw (at-row (entry .args .t .now) (entry .args .s) (entry .pre)))
 
 pub meta-at-spec : {M : Type 1} → statement M
 meta-at-spec =

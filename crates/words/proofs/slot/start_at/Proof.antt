@@ -37,7 +37,8 @@ returns c =
     let get3 = c .before .before .before .before .before .get3 in
     let get4 = c .before .before .before .before .get4 in
     let get5 = c .before .before .before .get5 in
-    rw (c .get8 .ensures, c .before .get7 .ensures, c .before .before .get6 .ensures, get5 .ensures, get4 .ensures, get3 .ensures, get2 .ensures, get .ensures, at-row (entry .args .t .now) (entry .args .s) (entry .pre))
+    rw (c .get8 .ensures, c .before .get7 .ensures, c .before .before .get6 .ensures, get5 .ensures, get4 .ensures, get3 .ensures, get2 .ensures, get .ensures)
+    (rw (at-row (entry .args .t .now) (entry .args .s) (entry .pre)))
 
 pub start-at-spec : {M : Type 1} → statement M
 start-at-spec =
