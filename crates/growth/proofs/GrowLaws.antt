@@ -10,7 +10,7 @@ use Rattle.rules.specs.declared.Refusal.the-variants.{NoGroup, SizeOutOfLimits,
 use Rattle.rules.specs.declared.Answer.{Answer}
 use Rattle.rules.specs.declared.Answer.the-variants.{Done, Refused}
 use Rattle.rules.specs.Model.{Table, at, groupAt}
-use Rattle.rules.specs.Moves.{setGroup, resize}
+use Rattle.rules.specs.Moves.{resize}
 use Rattle.rules.specs.Calls.{within, upward, grown, grownBy, grownTo}
 use Rattle.rules.specs.Runs.{step, grow}
 use Rattle.promises.specs.Did.{Makes}
@@ -44,10 +44,9 @@ module _ (t : Table) (d : ℤ) (memory : Bool) (s : ℕ) where
       unfolding grownBy grownTo
       by-no-memory y = group-in t s _ e (found-at _ t _ (size-is (To n) o) (if-so _ (asked ∙ y)))
 
-      pub by-done : {u : Table} → b ≡ false → u ≡ onBooks (setGroup g (record { size = n; count = x .count })) t → Makes (grownBy t d memory s) Done u
-      unfolding grownBy grownTo resize onBooks
-      by-done y w = group-in t s _ e (found-at _ t _ (size-is (To n) o)
-          (if-not _ t (asked ∙ y) (given refl (w ∙ ap (λ (x : Group). onBooks (setGroup g (record { size = n; count = x .count })) t) f))))
+      pub by-done : {u : Table} → b ≡ false → u ≡ onBooks (resize g n) t → Makes (grownBy t d memory s) Done u
+      unfolding grownBy grownTo onBooks
+      by-done y w = group-in t s _ e (found-at _ t _ (size-is (To n) o) (if-not _ t (asked ∙ y) (given refl w)))
 
 module _ (t : Table) (h : ℕ) (d : ℤ) (memory : Bool) where
   pub grow-no : (n : Refusal) → No n ≡ callerOf (t .core) h → Makes (step t (grow h d memory)) (Refused n) t

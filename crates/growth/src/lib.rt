@@ -11,7 +11,6 @@ ghost use Rattle.promises.specs.Did.{Makes, Did};
 ghost use Rattle.words.specs.Reading.{tableOf};
 ghost use Rattle.growth.specs.Limits.{asOption};
 use rules::Answer;
-use rules::Group;
 use rules::Member;
 use rules::Refusal;
 use taking::Got;
@@ -85,14 +84,7 @@ fn grow_by(t: &mut [u64; Table::WORDS], count: i64, memory: bool, caller: usize)
     if no_memory(count, memory) {
         return Answer::Refused(Refusal::NoMemory);
     }
-    book::set_group(
-        t,
-        g,
-        Group {
-            size: n,
-            count: space.count,
-        },
-    );
+    book::set_size(t, g, n);
     Answer::Done
 }
 

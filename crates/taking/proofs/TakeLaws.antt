@@ -18,7 +18,7 @@ use Rattle.rules.specs.Moves.{change, lowest, setGroup, joinGroup, less, leaveG
 use Rattle.rules.specs.Calls.{spent}
 use Rattle.promises.specs.Order.Chains.{onCore}
 use Rattle.words.specs.Reading.{startOf, bytesOf, tab, tabFrom}
-use Rattle.words.specs.Effects.{onBooks, withPids}
+use Rattle.words.specs.Effects.{onBooks, withPids, recount}
 use Rattle.scans.specs.declared.Found.{Found}
 use Rattle.scans.specs.declared.Test.the-variants.{Unused}
 use Rattle.scans.specs.Tests.{passes, asOption}
@@ -70,8 +70,8 @@ unfolding free trapframe trampoline pageSize nameSize bytesOf tab tabFrom
 free-is = refl
 
 -- ---- groups
-pub join-law : (t : Table) (g : ℕ) (x : Group) → x ≡ groupAt (t .books) g → onBooks (setGroup g (record { size = x .size; count = x .count + 1 })) t ≡ onBooks (joinGroup g) t
-unfolding joinGroup onBooks
+pub join-law : (t : Table) (g : ℕ) (x : Group) → x ≡ groupAt (t .books) g → onBooks (recount g (x .count + 1)) t ≡ onBooks (joinGroup g) t
+unfolding joinGroup recount onBooks
 join-law t g x e = rw e
 
 module _ (t : Table) (g : ℕ) (x : Group) (e : x ≡ groupAt (t .books) g) where
@@ -81,8 +81,9 @@ module _ (t : Table) (g : ℕ) (x : Group) (e : x ≡ groupAt (t .books) g) wher
       one : noGroup ≡ less x
       one = rw (le-leb (x .count) 1 b)
 
-  pub less-more : 1 < x .count → onBooks (setGroup g (record { size = x .size; count = x .count - 1 })) t ≡ onBooks (setGroup g (less (groupAt (t .books) g))) t
-  less-more b = ap (λ (y : Group). onBooks (setGroup g y) t) (one ∙ ap (λ (y : Group). less y) e)
+  pub less-more : 1 < x .count → onBooks (recount g (x .count - 1)) t ≡ onBooks (setGroup g (less (groupAt (t .books) g))) t
+  unfolding recount onBooks
+  less-more b = ap (λ (y : Group). onBooks (setGroup g y) t) (ap (λ (y : Group). record { size = y .size; count = x .count - 1 }) (sym e) ∙ one ∙ ap (λ (y : Group). less y) e)
     where
       one : record { size = x .size; count = x .count - 1 } ≡ less x
       one = rw (lt-leb (x .count) 1 b)

@@ -95,14 +95,7 @@ pub fn join_group(t: &mut [u64; Table::WORDS], g: usize)
     ensures { λ _. ⌜ tableOf (now (t .exit)) ≡ onBooks (joinGroup g) (tableOf (now (t .entry))) ⌝ }
 {
     let space = book::group_at(t, g);
-    book::set_group(
-        t,
-        g,
-        Group {
-            size: space.size,
-            count: space.count + 1,
-        },
-    );
+    book::set_count(t, g, space.count + 1);
 }
 
 fn leave(t: &mut [u64; Table::WORDS], g: usize)
@@ -113,14 +106,7 @@ fn leave(t: &mut [u64; Table::WORDS], g: usize)
     if space.count <= 1 {
         book::set_group(t, g, Group { size: 0, count: 0 });
     } else {
-        book::set_group(
-            t,
-            g,
-            Group {
-                size: space.size,
-                count: space.count - 1,
-            },
-        );
+        book::set_count(t, g, space.count - 1);
     }
 }
 

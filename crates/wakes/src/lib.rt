@@ -82,7 +82,7 @@ fn hand_over(t: &mut [u64; Table::WORDS], init: Parent, caller: usize, i: usize)
     }
 }
 
-// Each slot whose parent is s, ZOMBIE or not, gets init, and for each init's channel is woken.
+// Each slot whose parent is the caller, ZOMBIE or not, gets init, and for each init's channel is woken.
 pub fn reparent(t: &mut [u64; Table::WORDS], caller: usize)
     requires { ⌜ Queued (tableOf (now t) .core) ⌝ }
     ensures { λ _. ⌜ tableOf (now (t .exit)) ≡ onCore (reparent (tableOf (now (t .entry)) .books .init) caller) (tableOf (now (t .entry))) ⌝ }

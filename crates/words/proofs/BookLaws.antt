@@ -4,18 +4,18 @@ use native.Mathlib.Omega.{arith}
 use mathlib.Core.Path.{_≡_, refl, sym, ap, _∙_}
 use mathlib.Core.Logic.{_≢_}
 use mathlib.Core.List.{List}
-use lib.ListN.{length, set, length-set}
+use lib.ListN.{length, set}
 use Rattle.rules.specs.declared.Parent.{Parent}
 use Rattle.rules.specs.declared.Parent.the-variants.{Nobody}
 use Rattle.rules.specs.declared.Group.{Group}
 use Rattle.rules.specs.Sizes.{slotCount, groupCount, hartCount}
 use Rattle.rules.specs.Model.{hartAt, groupAt, noGroup}
-use Rattle.rules.specs.Moves.{setGroup}
+use Rattle.rules.specs.Moves.{setGroup, resize}
 use Rattle.promises.specs.Order.Chains.{onCore}
 use Rattle.words.specs.declared.queue.RingAt.{RingAt}
-use Rattle.words.specs.Layout.{columns, sizeColumn, countColumn, placeColumn, headCell, tailCell, initCell, pidsCell, cells, hartCell, columnAt, cellAt, wordCount, column, cell}
+use Rattle.words.specs.Layout.{slotColumns, columns, sizeColumn, countColumn, placeColumn, headCell, tailCell, initCell, pidsCell, cells, hartCell, columnAt, cellAt, wordCount, column, cell}
 use Rattle.words.specs.Reading.{queueAt, runQueue, slotsOf, hartsOf, groupOf, groupsOf, coreOf, booksOf, tableOf, parentOf, parentWord, InTable}
-use Rattle.words.specs.Effects.{onBooks, withHart, withInit, withPids}
+use Rattle.words.specs.Effects.{onBooks, withHart, withInit, withPids, recount}
 use Rattle.words.proofs.Places.{column-range, cell-range, column-here, column-there, cell-kept, cell-here, cell-there, column-kept}
 use Rattle.words.proofs.Tabs.{getD-tab, tab-set}
 use Rattle.words.proofs.Fresh.{parent-back}
@@ -89,45 +89,41 @@ module _ (w : List ℕ) (lw : length w ≡ wordCount) where
   set-pids-law v = table-is (books-cell pidsCell v (omega arith) (omega arith))
       (books-is (cell-groups w pidsCell v) (ap parentOf (cell-there w pidsCell v initCell (λ f. omega arith))) (cell-here w pidsCell v (in-words pidsCell (omega arith))))
 
--- ---- a group's two words
-module _ (w : List ℕ) (lw : length w ≡ wordCount) (g : ℕ) (gb : g < groupCount) (x : Group) where
-  mid : List ℕ
-  mid = set w (columnAt sizeColumn g) (x .size)
-
-  both : List ℕ
-  both = set mid (columnAt countColumn g) (x .count)
-
+-- ---- a store in a column of the groups, which lie between the slots' and the places'
+module _ (w : List ℕ) (lw : length w ≡ wordCount) (g : ℕ) (gb : g < groupCount) where
   small : g < slotCount
   unfolding groupCount
   small = gb
 
-  both-cell : (k : ℕ) → cell both k ≡ cell w k
-  unfolding both mid
-  both-cell k = cell-kept mid countColumn g (x .count) k (omega arith) small ∙ cell-kept w sizeColumn g (x .size) k (omega arith) small
-
-  both-other : (f s : ℕ) → s < slotCount → ((sizeColumn ≡ f) × (g ≡ s) → ⊥) → ((countColumn ≡ f) × (g ≡ s) → ⊥) → column both f s ≡ column w f s
-  unfolding both mid
-  both-other f s b n m = column-there mid countColumn g (x .count) f s small b m ∙ column-there w sizeColumn g (x .size) f s small b n
-
-  both-size : column both sizeColumn g ≡ x .size
-  unfolding both mid
-  both-size = column-there mid countColumn g (x .count) sizeColumn g small small (λ e. omega (arith, e .0))
-      ∙ column-here w sizeColumn g (x .size) (omega (arith, lw, column-range sizeColumn g (omega arith) small))
-
-  both-count : column both countColumn g ≡ x .count
-  unfolding both mid
-  both-count = column-here mid countColumn g (x .count)
-      (omega (arith, lw, length-set w (columnAt sizeColumn g) (x .size), column-range countColumn g (omega arith) small))
-
-  pub set-group-law : tableOf (set (set w (columnAt sizeColumn g) (x .size)) (columnAt countColumn g) (x .count)) ≡ onBooks (setGroup g x) (tableOf w)
-  unfolding tableOf coreOf booksOf groupsOf onBooks both mid
-  set-group-law =
+  group-store : (f n : ℕ) (x : Group) → slotColumns ≤ f → f < placeColumn → groupOf (set w (columnAt f g) n) g ≡ x → tableOf (set w (columnAt f g) n) ≡ onBooks (setGroup g x) (tableOf w)
+  unfolding tableOf coreOf booksOf groupsOf onBooks
+  group-store f n x l m e =
       table-is
-      (core-is (slots-kept w both (λ f s a b. both-other f s b (λ e. omega (arith, e .0)) (λ e. omega (arith, e .0))))
-      (queue-kept w both runQueue (λ p b. both-other placeColumn p b (λ e. omega (arith, e .0)) (λ e. omega (arith, e .0))) (both-cell headCell) (both-cell tailCell))
-      (harts-kept w both (λ h b. both-cell (hartCell h))))
-      (books-is
-      (tab-set groupCount (groupOf w) (groupOf both) g x noGroup gb (group-is both-size both-count)
-      (λ i b n. group-is (both-other sizeColumn i (unfold groupCount in b) (λ e. n (sym (e .1))) (λ e. omega (arith, e .0)))
-      (both-other countColumn i (unfold groupCount in b) (λ e. omega (arith, e .0)) (λ e. n (sym (e .1))))))
-      (ap parentOf (both-cell initCell)) (both-cell pidsCell))
+      (core-is (slots-kept w _ (λ h s a b. column-there w f g n h s small b (λ z. omega (arith, z .0))))
+      (queue-kept w _ runQueue (λ p b. column-there w f g n placeColumn p small b (λ z. omega (arith, z .0))) (apart headCell) (apart tailCell))
+      (harts-kept w _ (λ h b. apart (hartCell h))))
+      (books-is (tab-set groupCount (groupOf w) (groupOf (set w (columnAt f g) n)) g x noGroup gb e (λ i b z. group-is (other sizeColumn i b z) (other countColumn i b z)))
+      (ap parentOf (apart initCell))
+      (apart pidsCell))
+    where
+      apart : (k : ℕ) → cell (set w (columnAt f g) n) k ≡ cell w k
+      apart k = cell-kept w f g n k (omega arith) small
+
+      other : (h i : ℕ) → i < groupCount → i ≢ g → column (set w (columnAt f g) n) h i ≡ column w h i
+      other h i b z = column-there w f g n h i small (unfold groupCount in b) (λ y. z (sym (y .1)))
+
+  here : (f n : ℕ) → f < columns → column (set w (columnAt f g) n) f g ≡ n
+  here f n b = column-here w f g n (omega (arith, lw, column-range f g b small))
+
+  there : (f n h : ℕ) → f ≢ h → column (set w (columnAt f g) n) h g ≡ column w h g
+  there f n h z = column-there w f g n h g small small (λ e. z (e .0))
+
+  pub set-size-law : (n : ℕ) → tableOf (set w (columnAt sizeColumn g) n) ≡ onBooks (resize g n) (tableOf w)
+  unfolding resize onBooks
+  set-size-law n = group-store sizeColumn n _ (omega arith) (omega arith)
+      (group-is (here sizeColumn n (omega arith)) (there sizeColumn n countColumn (λ e. omega arith) ∙ ap (λ (x : Group). x .count) (group-law w g gb)))
+
+  pub set-count-law : (n : ℕ) → tableOf (set w (columnAt countColumn g) n) ≡ onBooks (recount g n) (tableOf w)
+  unfolding recount onBooks
+  set-count-law n = group-store countColumn n _ (omega arith) (omega arith)
+      (group-is (there countColumn n sizeColumn (λ e. omega arith) ∙ ap (λ (x : Group). x .size) (group-law w g gb)) (here countColumn n (omega arith)))

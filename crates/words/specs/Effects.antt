@@ -12,7 +12,8 @@ use Rattle.rules.specs.declared.Kin.{Kin}
 use Rattle.rules.specs.declared.Start.{Start}
 use Rattle.rules.specs.declared.Process.{Process}
 use Rattle.rules.specs.Sizes.{slotCount}
-use Rattle.rules.specs.Model.{Core, Books, Table}
+use Rattle.rules.specs.Model.{Core, Books, Table, groupAt}
+use Rattle.rules.specs.Moves.{setGroup}
 use Rattle.promises.specs.Order.Chains.{onCore}
 use Rattle.words.specs.declared.queue.RingAt.{RingAt}
 use Rattle.words.specs.Layout.{columnAt, cellAt}
@@ -64,6 +65,10 @@ withInit p b = record { groups = b .groups; init = p; pids = b .pids }
 
 unfoldable pub withPids : ℕ → Books → Books
 withPids n b = record { groups = b .groups; init = b .init; pids = n }
+
+-- a group's count; its size is set by `resize`
+unfoldable pub recount : ℕ → ℕ → Books → Books
+recount g n b = setGroup g (record { size = groupAt b g .size; count = n }) b
 
 -- the head s left the queue of t, and nothing else changed
 pub record Popped (t : Table) (s : ℕ) (u : Table) : Type 0 where

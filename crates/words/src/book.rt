@@ -3,10 +3,10 @@ ghost use mathlib.Core.Path.{_≡_};
 ghost use Prim.Native.Nat.{_<_};
 ghost use Rattle.rules.specs.Sizes.{groupCount, hartCount};
 ghost use Rattle.rules.specs.Model.{groupAt, hartAt};
-ghost use Rattle.rules.specs.Moves.{setGroup};
+ghost use Rattle.rules.specs.Moves.{setGroup, resize};
 ghost use Rattle.promises.specs.Order.Chains.{onCore};
 ghost use Rattle.words.specs.Reading.{tableOf, InTable};
-ghost use Rattle.words.specs.Effects.{onBooks, withHart, withInit, withPids};
+ghost use Rattle.words.specs.Effects.{onBooks, withHart, withInit, withPids, recount};
 use crate::Table;
 use crate::get;
 use crate::get_cell;
@@ -36,12 +36,26 @@ pub fn group_at(t: &[u64; Table::WORDS], g: usize) -> Group
     Group { size, count }
 }
 
+pub fn set_size(t: &mut [u64; Table::WORDS], g: usize, size: u64)
+    requires { ⌜ g < groupCount ⌝ }
+    ensures { λ _. ⌜ tableOf (now (t .exit)) ≡ onBooks (resize g size) (tableOf (now (t .entry))) ⌝ }
+{
+    put(t, SIZE_COLUMN, g, size);
+}
+
+pub fn set_count(t: &mut [u64; Table::WORDS], g: usize, count: u64)
+    requires { ⌜ g < groupCount ⌝ }
+    ensures { λ _. ⌜ tableOf (now (t .exit)) ≡ onBooks (recount g count) (tableOf (now (t .entry))) ⌝ }
+{
+    put(t, COUNT_COLUMN, g, count);
+}
+
 pub fn set_group(t: &mut [u64; Table::WORDS], g: usize, group: Group)
     requires { ⌜ g < groupCount ⌝ }
     ensures { λ _. ⌜ tableOf (now (t .exit)) ≡ onBooks (setGroup g group) (tableOf (now (t .entry))) ⌝ }
 {
-    put(t, SIZE_COLUMN, g, group.size);
-    put(t, COUNT_COLUMN, g, group.count);
+    set_size(t, g, group.size);
+    set_count(t, g, group.count);
 }
 
 pub fn hart_at(t: &[u64; Table::WORDS], hart: usize) -> Parent

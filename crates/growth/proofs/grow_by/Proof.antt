@@ -61,8 +61,8 @@ returns-3 c =
     let n = c .before .before .before .n in
     by-no-memory (tableOf (entry .args .t .now)) (entry .args .count) (entry .args .memory) (entry .args .caller) (toZ-ofZ (fits .count)) (sym (group .given .1) ∙ ap (λ (k : Kin). k .group) (kin-at .ensures .0)) (group-at .ensures) (new-size .result) (new-size .ensures) (sym (n .given .1)) (c .before .no-memory .ensures) (c .if1 .taken)
 
-set-group-requires : tie.Need-set-group-requires
-set-group-requires c κs =
+set-size-requires : tie.Need-set-size-requires
+set-size-requires c κs =
     let kin-at = c .before .before .before .before .before .before .before .before .before .before .before .before .kin-at in
     let group = c .before .before .before .before .before .before .before .before .before .before .group in
     subst InGroups (group .given .1) (kin-at .ensures .1)
@@ -77,7 +77,7 @@ returns-4 c =
     let new-size = c .before .before .before .before .before .before .before .new-size in
     let n = c .before .before .before .before .before .n in
     let no-memory = c .before .before .before .no-memory in
-    by-done (tableOf (entry .args .t .now)) (entry .args .count) (entry .args .memory) (entry .args .caller) (toZ-ofZ (fits .count)) (sym (group .given .1) ∙ ap (λ (k : Kin). k .group) (kin-at .ensures .0)) (group-at .ensures) (new-size .result) (new-size .ensures) (sym (n .given .1)) (no-memory .ensures) (c .before .before .if1 .left) (c .set-group .ensures)
+    by-done (tableOf (entry .args .t .now)) (entry .args .count) (entry .args .memory) (entry .args .caller) (toZ-ofZ (fits .count)) (sym (group .given .1) ∙ ap (λ (k : Kin). k .group) (kin-at .ensures .0)) (group-at .ensures) (new-size .result) (new-size .ensures) (sym (n .given .1)) (no-memory .ensures) (c .before .before .if1 .left) (c .set-size .ensures)
 
 pub grow-by-spec : {M : Type 1} → statement M
 grow-by-spec =
@@ -94,5 +94,5 @@ grow-by-spec =
     returns-2
     no-memory-requires
     returns-3
-    set-group-requires
+    set-size-requires
     returns-4)

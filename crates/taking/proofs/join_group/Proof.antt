@@ -12,20 +12,20 @@ use Rattle.taking.proofs.join_group.Tie as tie
 group-at-requires : tie.Need-group-at-requires
 group-at-requires c κs = search needs
 
-add-t7 : tie.Need-add-t7
+add-set-count : tie.Need-add-set-count
 unfolding slotCount
-add-t7 c =
+add-set-count c =
     let entry = c .before .before .before .before in
     omega (arith, ap (λ (x : Group). x .count) (c .before .before .group-at .ensures), entry .pre .1)
 
-set-group-requires : tie.Need-set-group-requires
-set-group-requires c κs = search needs
+set-count-requires : tie.Need-set-count-requires
+set-count-requires c κs = search needs
 
 returns : tie.Need-returns
 returns c =
     let entry = c .before .before .before .before .before in
     let group-at = c .before .before .before .group-at in
-    c .set-group .ensures ∙ join-law (tableOf (entry .args .t .now)) (entry .args .g) (group-at .result) (group-at .ensures)
+    c .set-count .ensures ∙ join-law (tableOf (entry .args .t .now)) (entry .args .g) (group-at .result) (group-at .ensures)
 
 pub join-group-spec : {M : Type 1} → statement M
-join-group-spec = tie.close (tie.spec group-at-requires add-t7 set-group-requires returns)
+join-group-spec = tie.close (tie.spec group-at-requires add-set-count set-count-requires returns)

@@ -11,11 +11,11 @@ group-at-requires c κs = search needs
 set-group-requires : tie.Need-set-group-requires
 set-group-requires c κs = search needs
 
-sub-t11 : tie.Need-sub-t11
-sub-t11 c = search needs
+sub-set-count : tie.Need-sub-set-count
+sub-set-count c = search needs
 
-set-group-requires-2 : tie.Need-set-group-requires-2
-set-group-requires-2 c κs = search needs
+set-count-requires : tie.Need-set-count-requires
+set-count-requires c κs = search needs
 
 returns : tie.Need-returns
 returns c =
@@ -28,9 +28,9 @@ returns-2 c =
     let entry = c .before .before .before .before .before .before .before in
     let group-at = c .before .before .before .before .before .group-at in
     let if1 = c .before .before .before .if1 in
-    c .set-group2 .ensures ∙ less-more (tableOf (entry .args .t .now)) (entry .args .g) (group-at .result) (group-at .ensures) (if1 .left)
+    c .set-count .ensures ∙ less-more (tableOf (entry .args .t .now)) (entry .args .g) (group-at .result) (group-at .ensures) (if1 .left)
 
 pub leave-spec : {M : Type 1} → statement M
 leave-spec =
     tie.close
-    (tie.spec group-at-requires set-group-requires sub-t11 set-group-requires-2 returns returns-2)
+    (tie.spec group-at-requires set-group-requires sub-set-count set-count-requires returns returns-2)

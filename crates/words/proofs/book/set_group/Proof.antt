@@ -1,23 +1,20 @@
-use native.Mathlib.Omega.{arith}
-use Rattle.rules.specs.Sizes.{groupCount}
-use Rattle.words.proofs.BookLaws.{set-group-law}
+use Rattle.words.specs.Reading.{tableOf}
+use borrow.Author.Needs.{needs}
+use Rattle.words.proofs.Changes.{group-then}
 use Rattle.words.proofs.book.set_group.Statement.{statement}
 use Rattle.words.proofs.book.set_group.Tie as tie
 
-put-requires : tie.Need-put-requires
-unfolding groupCount
-put-requires c κs = omega arith
+set-size-requires : tie.Need-set-size-requires
+set-size-requires c κs = search needs
 
-put-requires-2 : tie.Need-put-requires-2
-unfolding groupCount
-put-requires-2 c κs = omega arith
+set-count-requires : tie.Need-set-count-requires
+set-count-requires c κs = search needs
 
 returns : tie.Need-returns
 returns c =
     let entry = c .before .before .before .before in
-    let put = c .before .before .put in
-    rw (c .put2 .ensures .0, put .ensures .0)
-    (set-group-law (entry .args .t .now) (put .ensures .1) (entry .args .g) (entry .pre) (entry .args .group))
+    let set-size = c .before .before .set-size in
+    group-then (entry .args .g) _ _ (tableOf (entry .args .t .now)) (set-size .ensures) (c .set-count .ensures)
 
 pub set-group-spec : {M : Type 1} → statement M
-set-group-spec = tie.close (tie.spec put-requires put-requires-2 returns)
+set-group-spec = tie.close (tie.spec set-size-requires set-count-requires returns)
