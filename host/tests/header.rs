@@ -1,12 +1,17 @@
-//! The names and numbers of anwalghid.h are the crate's. That they are the archive's, archive.c sees.
+//! The names and numbers of anwalghid.h and of the definitions are the crate's. That they are the
+//! archive's, archive.c sees.
 
 use anwalghid::{Refusal, Table};
 use std::fs;
 use std::path::Path;
 
-fn header() -> String {
-    let file = Path::new(env!("CARGO_MANIFEST_DIR")).join("anwalghid.h");
+fn text_of(file: &str) -> String {
+    let file = Path::new(env!("CARGO_MANIFEST_DIR")).join(file);
     fs::read_to_string(file).unwrap()
+}
+
+fn header() -> String {
+    text_of("anwalghid.h")
 }
 
 /// Refusal 6 too, which no test can reach.
@@ -21,6 +26,15 @@ fn refusals_are_named_and_numbered_alike() {
         let expected = format!("ANWALGHID_{name} = {}", refusal.number());
         assert_eq!(line.trim().trim_end_matches(','), expected);
     }
+}
+
+#[test]
+fn refusals_are_numbered_as_the_definitions_do() {
+    let defined = text_of("../crates/rules/specs/Answers.antt");
+    let numbers = |line: &&str| line.starts_with("numberOf ");
+    let lines: Vec<_> = defined.lines().filter(numbers).collect();
+    let ours = |refusal: &Refusal| format!("numberOf {refusal:?} = {}", refusal.number());
+    assert_eq!(lines, Refusal::ALL.iter().map(ours).collect::<Vec<_>>());
 }
 
 #[test]
