@@ -37,7 +37,8 @@
 //! the tests, and oracle/compare.sh compares host/examples/lane.rs with the Rust, call by call.
 //!
 //! The build links libanwalghid.a from the folder that the variable ARCHIVE names. host/archive.sh
-//! builds it, which takes the Rattle kit, and prints the folder.
+//! builds it, which takes the Rattle kit, and prints the folder. docs/INTEGRATING.md says how a kernel
+//! uses it, and host/examples/kernel.rs does.
 //!
 //! # Where each function of manager.rs went
 //!

@@ -4,9 +4,10 @@
 //! array a pointer, and what comes back is a code.
 
 use crate::answer::{impossible, Answer};
+use crate::Table;
 
-/// `Table::WORDS` in crates/words: 21 columns of 64 slots, 4 cells, and a cell for each of 8 harts.
-const WORDS: usize = 21 * 64 + 4 + 8;
+/// `Table::WORDS` in crates/words: 21 columns of the slots, 4 cells, and a cell for each hart.
+const WORDS: usize = 21 * Table::SLOTS + 4 + Table::HARTS;
 
 type Row = [u64; WORDS];
 
@@ -19,7 +20,7 @@ pub type Sight = [u64; 10];
 const ANSWERED: u64 = 0;
 const OUT_OF_RANGE: u64 = 2;
 
-/// One table in order: `anwalghid_new` wrote its words first, and after that only calls did.
+/// One table in order: its words were those of a fresh table first, and after that only calls wrote.
 #[derive(Clone)]
 pub struct Words([Row; 1]);
 
@@ -102,11 +103,11 @@ fn answered(code: u64, said: Said) -> Answer {
 }
 
 impl Words {
+    /// Zero words are a fresh table in order: `Table::new` in crates/words returns them and is
+    /// proved to. The archive has no function that a `const` could call; a test compares.
     #[inline]
-    pub fn fresh() -> Self {
-        let mut words = Words([[0; WORDS]]);
-        words.renew();
-        words
+    pub const fn fresh() -> Self {
+        Words([[0; WORDS]])
     }
 
     #[inline]
@@ -159,7 +160,8 @@ impl Words {
 mod tests {
     use super::*;
 
-    /// A fresh table is written over three rows of ones: the archive's table is as long as a row.
+    /// A fresh table is written over three rows of ones: the archive's table is as long as a row,
+    /// and what it writes is what `fresh` has.
     #[test]
     fn a_row_is_the_archives_table() {
         let mut rows = [[u64::MAX; WORDS]; 3];
@@ -167,7 +169,7 @@ mod tests {
         let code = unsafe { anwalghid_new(rows.as_mut_ptr().add(1), 1) };
         assert_eq!(code, ANSWERED);
         assert!(rows[0].iter().chain(&rows[2]).all(|&word| word == u64::MAX));
-        assert!(rows[1].iter().all(|&word| word != u64::MAX));
+        assert_eq!(rows[1], Words::fresh().0[0]);
     }
 
     /// Two tables in order, lent as `count` of them, and an answer that nobody wrote.

@@ -5,7 +5,10 @@ use core::fmt;
 
 /// Why a call was refused, with document 01's numbers. A refusal changes nothing, but
 /// [`TableFull`](Refusal::TableFull) and fork's [`NoMemory`](Refusal::NoMemory) spend a pid.
+///
+/// New calls bring new refusals, so a `match` needs an arm for others.
 #[derive(Clone, Copy, PartialEq, Eq, Hash, Debug)]
+#[non_exhaustive]
 #[repr(u8)]
 pub enum Refusal {
     /// 1: the hart's number is 8 or more.
@@ -48,7 +51,7 @@ pub enum Refusal {
 
 impl Refusal {
     /// All of them, by rising number.
-    pub const ALL: [Refusal; 18] = [
+    pub const ALL: &'static [Refusal] = &[
         Refusal::NoSuchHart,
         Refusal::HartIdle,
         Refusal::HartBusy,
@@ -69,7 +72,7 @@ impl Refusal {
         Refusal::NoMemory,
     ];
 
-    /// Document 01's number, 1 to 18.
+    /// Document 01's number, from 1 on.
     #[inline]
     pub const fn number(self) -> u8 {
         self as u8

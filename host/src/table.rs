@@ -33,13 +33,20 @@ impl Table {
     /// (`TOP` in crates/shows).
     pub const SHOW_ROOM: usize = 66 + 21 * Self::SLOTS + 21 * Self::HARTS + 418 * Self::SLOTS;
 
-    /// A fresh table.
+    /// A fresh table. It may be a `static`, behind a lock:
+    ///
+    /// ```
+    /// # use anwalghid::Table;
+    /// # use std::sync::Mutex;
+    /// static TABLE: Mutex<Table> = Mutex::new(Table::new());
+    /// # TABLE.lock().unwrap().user_init().unwrap();
+    /// ```
     #[inline]
-    pub fn new() -> Self {
+    pub const fn new() -> Self {
         Table(Words::fresh())
     }
 
-    /// A fresh table in place of this one.
+    /// A fresh table in place of this one, written by the archive.
     #[inline]
     pub fn renew(&mut self) {
         self.0.renew()

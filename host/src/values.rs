@@ -1,5 +1,7 @@
 //! What calls are given, and what they answer.
 
+use crate::Table;
+
 /// A process or thread number. Never given twice; 0 is nobody's.
 ///
 /// It is no slot, so that a join can't be given one:
@@ -31,16 +33,16 @@ impl Channel {
     /// No channel.
     pub const NONE: Channel = Channel(0);
 
-    /// The lowest that may be given to sleep and wake.
-    pub const FIRST_DEVICE: Channel = Channel(65);
+    /// The lowest that may be given to sleep and wake: 0 is none, then each slot's own.
+    pub const FIRST_DEVICE: Channel = Channel(Table::SLOTS as u64 + 1);
 
     /// The slot whose own channel this is.
     #[inline]
     pub const fn slot(self) -> Option<Slot> {
-        match self.0 {
-            1..=64 => Some(Slot(self.0 as usize - 1)),
-            _ => None,
+        if self.0 == Self::NONE.0 || self.is_device() {
+            return None;
         }
+        Some(Slot(self.0 as usize - 1))
     }
 
     /// Is it a device's?

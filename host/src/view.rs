@@ -52,8 +52,9 @@ impl fmt::Display for State {
     }
 }
 
-/// What a slot holds. One that is UNUSED has zeros and nothing else.
+/// What a slot holds. One that is UNUSED has zeros and nothing else. New fields may come.
 #[derive(Clone, Copy, PartialEq, Eq, Hash, Debug)]
+#[non_exhaustive]
 pub struct SlotView {
     /// Its state.
     pub state: State,

@@ -1,9 +1,10 @@
 //! The edges: every refusal by name, buffers that just fit, names and numbers at their limits.
 
 use anwalghid::{
-    Channel, Exited, Hart, Joined, Mapped, Pid, Refusal, Slot, SlotView, State, Table, ThreadAsk,
-    Waited, Wish,
+    Channel, Exited, Hart, Joined, Mapped, Pid, Refusal, Slot, State, Table, ThreadAsk, Waited,
+    Wish,
 };
+use std::sync::Mutex;
 
 const HART: Hart = Hart(0);
 const OTHER: Hart = Hart(1);
@@ -323,21 +324,29 @@ fn channels_at_their_limits() {
 fn the_last_slot_and_the_one_past_it() {
     let table = full();
     let last = table.slot(Slot(63)).unwrap();
-    let expected = SlotView {
-        state: State::Runnable,
-        channel: Channel::NONE,
-        killed: false,
-        status: 0,
-        pid: Pid(64),
-        queued: true,
-        group: None,
-        parent: None,
-        thread: false,
-        system: true,
-    };
-    assert_eq!(last, expected);
+    assert_eq!((last.state, last.queued), (State::Runnable, true));
+    assert_eq!((last.channel, last.killed), (Channel::NONE, false));
+    assert_eq!((last.pid, last.status), (Pid(64), 0));
+    assert_eq!((last.group, last.parent), (None, None));
+    assert_eq!((last.thread, last.system), (false, true));
     assert_eq!(table.slot(Slot(64)), None);
     assert_eq!(table.slot(Slot(usize::MAX)), None);
+}
+
+/// A kernel's table is a static.
+static TABLE: Mutex<Table> = Mutex::new(Table::new());
+
+/// The archive's own fresh table shows the same, and goes on the same.
+#[test]
+fn a_static_table_is_fresh() {
+    let mut table = TABLE.lock().unwrap();
+    let mut renewed = full();
+    renewed.renew();
+    assert_eq!(shown(&table), shown(&renewed));
+    assert_eq!(table.user_init(), renewed.user_init());
+    assert_eq!(table.start_init_process(), Ok(()));
+    assert_eq!(renewed.start_init_process(), Ok(()));
+    assert_eq!(shown(&table), shown(&renewed));
 }
 
 #[test]

@@ -99,7 +99,7 @@ fn slots_agree_with_show() {
 /// The numbers are document 01's, the words lane's.
 #[test]
 fn refusals_as_text() {
-    for (place, refusal) in Refusal::ALL.into_iter().enumerate() {
+    for (place, &refusal) in Refusal::ALL.iter().enumerate() {
         assert_eq!(usize::from(refusal.number()), place + 1);
         let mut line = Vec::new();
         lane::calls::refused(refusal).put(&mut line);
