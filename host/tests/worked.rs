@@ -41,7 +41,7 @@ fn the_judges_runs() {
     }
 }
 
-/// 3,346 calls, and what the Rust answered.
+/// 3,417 calls, and what the Rust answered.
 #[test]
 fn recorded_answers_of_the_rust() {
     let folder = root().join("crates/replay");
@@ -84,7 +84,7 @@ fn slots_are_as_shown(table: &Table) {
     assert_eq!(shown.next(), None);
 }
 
-/// After each of the 3,346 calls.
+/// After each of the 3,417 calls.
 #[test]
 fn slots_agree_with_show() {
     let calls = fs::read_to_string(root().join("crates/replay/stdin")).unwrap();

@@ -57,9 +57,10 @@ pub fn dump_into(t: &[u64; Table::WORDS], buffer: &mut [u8]) -> Room
     }
 }
 
-// What the rest of the buffer holds can't be said of a part handed back; dump_into says it.
+// The part stands at the front of the buffer. What the rest holds can't be said of a part handed back; dump_into says it.
 pub fn proc_dump<'a>(t: &[u64; Table::WORDS], buffer: &'a mut [u8]) -> &'a mut [u8]
-    ensures { λ r. ⌜ now r ≡ listedPart (tableOf (now (t .entry))) (now (buffer .entry)) ⌝ }
+    ensures part { λ r. ⌜ now r ≡ listedPart (tableOf (now (t .entry))) (now (buffer .entry)) ⌝ }
+    ensures front { λ r. ⌜ r .ptr ≡ buffer .entry .ptr ⌝ }
 {
     match dump_into(t, buffer) {
         Room::Fits(n) => &mut buffer[..n],

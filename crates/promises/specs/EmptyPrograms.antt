@@ -1,5 +1,5 @@
 -- Document 01's five empty programs, each shut out by the definition or the promise that it names.
-use Prim.Native.Nat.{ℕ}
+use Prim.Native.Nat.{ℕ, _<_}
 use native.Mathlib.Omega.{arith}
 use mathlib.Core.Path.{_≡_, refl, sym, ap, _∙_}
 use mathlib.Core.Bool.{Bool, true, false, cond}
@@ -9,11 +9,12 @@ use Rattle.promises.specs.Types.{Slot, UNUSED, Refusal, NoRoom, Made, Ha
 use Rattle.rules.specs.Model.{Table, at, is, pid, slot}
 use Rattle.rules.specs.Calls.{Outcome}
 use Rattle.rules.specs.Listing.{listing, fitsIn, roomFor}
-use Rattle.rules.specs.Runs.{Call, boot, start, fork, dispatch, yield, step}
+use Rattle.rules.specs.Runs.{Call, boot, start, fork, dispatch, yield, step, runBy}
 use Rattle.rules.specs.Open.{everything}
 use Rattle.rules.specs.Worked.{up}
 use Rattle.promises.specs.Laws.Bools.{clash}
 use Rattle.promises.specs.Laws.Numbers.{some-hart}
+use Rattle.promises.specs.FirstOut.{handedOut, FirstInFirstOut}
 use Rattle.promises.specs.Demand3.{Dispatched, DispatchRule}
 use Rattle.promises.specs.Reached.{reached}
 
@@ -62,8 +63,21 @@ refuses-all-dispatch f r d =
     let g = one-granted f d .answer in
     let z : _≡_ {A = ℕ} 0 1 = cc in omega arith
 
--- ---- one giving the same slot always: by the (k+1)th dispatch, here the first after two different histories
-pub same-slot-always : (f : Table → Call → Outcome) (s : Slot) → ((t : Table) (h : ℕ) (x : Slot) → f t (dispatch h) .answer ≡ Handed x → x ≡ s) → DispatchRule f → ⊥
+-- ---- one giving the same slot always: by the (k+1)th dispatch
+abbrev pub GivesOnly : (Table → Call → Outcome) → Slot → Type 0
+GivesOnly f s = (t : Table) (h : ℕ) (x : Slot) → f t (dispatch h) .answer ≡ Handed x → x ≡ s
+
+-- by first in, first out: where two slots wait, it can't grant two dispatches, as the second is due to the slot that the first left there
+pub same-slot-in-turn : (f : Table → Call → Outcome) (s : Slot) → GivesOnly f s → FirstInFirstOut f → (before : List Call) (g h : ℕ) (x y : Slot) → 1 < length (reached before .core .queue)
+    → f (reached before) (dispatch g) .answer ≡ Handed x → f (f (reached before) (dispatch g) .table) (dispatch h) .answer ≡ Handed y → ⊥
+unfolding FirstInFirstOut runBy handedOut
+same-slot-in-turn f s k p before g h x y two a b =
+    let turn = rw (a, b) at (p before (dispatch g ∷ dispatch h ∷ []) 1 two) in
+    let same : x .0 ≡ y .0 = ap (λ (z : Slot). z .0) (k _ g x a ∙ sym (k _ h y b)) in
+    turn .unserved 0 (omega arith) (omega arith) (same ∙ turn .served (omega arith))
+
+-- by the dispatch rule, which has it grant: the first dispatch after two different histories
+pub same-slot-always : (f : Table → Call → Outcome) (s : Slot) → GivesOnly f s → DispatchRule f → ⊥
 same-slot-always f s k d =
     omega (arith, ap (λ (x : Slot). x .0) (k (reached waiting) 0 (slot 0) (one-granted f d .answer) ∙ sym (k (reached two-waiting) 0 (slot 1) (two-granted f d .answer))))
 

@@ -20,6 +20,10 @@ threadOn h stack entry ret m = thread h (record { entry = entry; arg = 9; stack 
 abbrev plain : List Call → List Answer → List ℕ → Case
 plain cs answers q = record { calls = cs; ends = answers; queue = q; looks = [] }
 
+-- a system thread takes slot 0 and runs on hart 0, init takes slot 1 and runs on hart 1, and then these
+abbrev upBehind : List Call → List Call
+upBehind cs = spawn [] 0 ∷ boot ∷ start ∷ dispatch 0 ∷ dispatch 1 ∷ cs
+
 unfoldable pub moreRuns : List Case
 moreRuns =
     -- killed: no ZOMBIE child, so 10; and the mark outlives a dispatch
@@ -69,6 +73,15 @@ moreRuns =
     ∷ plain (start ∷ up (boot ∷ start ∷ sleep 0 (firstDevice - 1) ∷ wakeup (firstDevice - 1) ∷ sleep 0 0 ∷ [])) (Refused InitOutOfTurn ∷ Made (pid 1) ∷ Done ∷ Handed (slot 0) ∷ Refused InitOutOfTurn ∷ Refused InitOutOfTurn ∷ Refused NotADevice ∷ Refused NotADevice ∷ Refused NotADevice ∷ []) []
     -- a join that blocks is woken by the thread's end, and asks again
     ∷ plain (up (ask 0 0 ∷ dispatch 1 ∷ join 0 (pid 2) NotWanted ∷ threadExit 1 0 ∷ dispatch 0 ∷ join 0 (pid 2) NotWanted ∷ join 0 (pid 2) NotWanted ∷ [])) (Blocked ∷ Done ∷ Handed (slot 0) ∷ Joined (pos 0) ∷ Refused NoneSuch ∷ []) []
+    -- init in slot 1, as a system thread has slot 0: a child that is handed over wakes it on its own channel, before the parent in slot 2
+    ∷ plain (upBehind (fork 1 true ∷ wait 1 NotWanted ∷ dispatch 1 ∷ fork 1 true ∷ wait 1 NotWanted ∷ dispatch 1 ∷ fork 1 true ∷ exit 1 5 ∷ []))
+    (Made (pid 1) ∷ Made (pid 2) ∷ Done ∷ Handed (slot 0) ∷ Handed (slot 1) ∷ Made (pid 3) ∷ Blocked ∷ Handed (slot 2) ∷ Made (pid 4) ∷ Blocked ∷ Handed (slot 3) ∷ Made (pid 5) ∷ Done ∷ [])
+    (4 ∷ 1 ∷ 2 ∷ [])
+    -- .. and it reaps the child, of which it is the parent now; it does not exit, and slot 0, once free, is a slot like any other
+    ∷ plain (upBehind (fork 1 true ∷ dispatch 2 ∷ fork 2 true ∷ dispatch 3 ∷ wait 1 NotWanted ∷ exit 2 5 ∷ exit 3 6 ∷ dispatch 1 ∷ wait 1 Writable ∷ wait 1 Writable ∷ wait 1 Writable
+    ∷ boot ∷ exit 1 0 ∷ exit 0 0 ∷ systemReturn 0 ∷ fork 1 true ∷ dispatch 0 ∷ exit 0 7 ∷ wait 1 Writable ∷ []))
+    (Blocked ∷ Done ∷ Done ∷ Handed (slot 1) ∷ Reaped (pid 3) 5 ∷ Reaped (pid 4) 6 ∷ Refused NoneSuch
+    ∷ Refused InitOutOfTurn ∷ Refused WrongWayOut ∷ Refused WrongWayOut ∷ Done ∷ Made (pid 5) ∷ Handed (slot 0) ∷ Done ∷ Reaped (pid 5) 7 ∷ []) []
     ∷ []
 
 pub more-runs-right : wrong 0 moreRuns ≡ []

@@ -6,9 +6,10 @@ use mathlib.Core.Bool.{Bool, true, false}
 use mathlib.Core.List.{List, _∷_}
 use lib.ListN.{length, getD}
 use lib.Dec.{eqb}
-use Rattle.promises.specs.Types.{ProcState, UNUSED, ALLOCATED, RUNNABLE, RUNNING, SLEEPING, ZOMBIE, Parent, Nobody, Member, Alone, Process}
+use borrow.Author.Tests.{eq-eqb}
+use Rattle.promises.specs.Types.{ProcState, UNUSED, ALLOCATED, RUNNABLE, RUNNING, SLEEPING, ZOMBIE, Parent, Nobody, Of, Member, Alone, Process}
 use Rattle.rules.specs.Sizes.{slotCount}
-use Rattle.rules.specs.Model.{Table, at, free, is, isSlot, known, stateCode}
+use Rattle.rules.specs.Model.{Table, at, free, is, isSlot, known, slot, stateCode}
 use Rattle.rules.specs.Moves.{reparent}
 use Rattle.rules.specs.Calls.{reapThreads}
 use Rattle.rules.specs.Runs.{Call}
@@ -66,6 +67,10 @@ module _ (t : Table) (w : Sound t) where
       go true y = absurd (clash z (w .tidy s .lone y .3))
       go false y = refl
 
+  -- a parent is a used slot and no system thread
+  parent-grouped : (s q : ℕ) → at (t .core) s .kin .parent ≡ Of (slot q) → isIn (at (t .core) q .kin .group) ≡ true
+  parent-grouped s q e = let p = w .raised .elder s q (ap (isSlot q) e ∙ eq-eqb q q refl) in w .tidy q .group (p .used) (p .user)
+
   -- "Fail to find parent process": where exit reads the parent, after the threads are reaped and the children handed over, there is one
   exit-has-parent : (h s : ℕ) → runs t h s → at (t .core) s .kin .system ≡ false → isSlot s (t .books .init) ≡ false
       → let u = reapThreads (at (t .core) s .kin .group) t in known (at (reparent (u .books .init) s (u .core)) s .kin .parent) ≡ true
@@ -109,6 +114,8 @@ pub record NoPanic (t : Table) : Type 0 where
   -- "exiting process has no address space", "user process has no address space": whoever is no system thread has a group; and only such a slot is ZOMBIE
   pub spaces : (s : ℕ) → is UNUSED (at (t .core) s) ≡ false → at (t .core) s .kin .system ≡ false → isIn (at (t .core) s .kin .group) ≡ true
   pub zombies : (s : ℕ) → is ZOMBIE (at (t .core) s) ≡ true → at (t .core) s .kin .system ≡ false
+  -- wait's caller, for a child that it found: whoever is a parent has a group
+  pub elders : (s q : ℕ) → at (t .core) s .kin .parent ≡ Of (slot q) → isIn (at (t .core) q .kin .group) ≡ true
   -- the asserts: a slot that is taken or freed is not marked queued, and a system thread has no address space
   pub marked : (s : ℕ) → at (t .core) s .meta .queued ≡ is RUNNABLE (at (t .core) s)
   pub alone : (s : ℕ) → at (t .core) s .kin .system ≡ true → at (t .core) s .kin .group ≡ Alone
@@ -125,6 +132,7 @@ sound-no-panic t w = record {
   parents = exit-has-parent t w;
   spaces = λ s. w .tidy s .group;
   zombies = zombie-user t w;
+  elders = parent-grouped t w;
   marked = w .queued .flag;
   alone = λ s y. w .tidy s .lone y .0;
 }

@@ -74,7 +74,8 @@ module _ (t : Table) (w : Sound t) where
       go true r = absurd (omega (arith, counted-in s g e, ap (λ x. x .count) (List·getD-eq-default (t .books .groups) noGroup (leb-true _ g r))))
       go false r = omega (arith, w .counted .tall, leb-false _ g r)
 
-  sound-placed : Placed t
+  -- of any sound table, so also between two moves of a call
+  pub sound-placed : Placed t
   unfolding free
   sound-placed = record {
     slots = w .queued .tall;

@@ -1,4 +1,4 @@
-use mathlib.Core.Path.{sym, ap, _∙_}
+use mathlib.Core.Path.{refl, sym, ap, _∙_}
 use lib.ListN.{length}
 use borrow.Author.Needs.{needs}
 use Rattle.promises.specs.ListingBound.{unfit-part}
@@ -29,12 +29,12 @@ returns : tie.Need-returns
 returns c =
     let dump-into = c .before .before .before .before .before .before .dump-into in
     let d = dump-into in
-    fit-front _ _ _ _ (sym (c .before .before .n .given .1) ∙ d .ensures .0) (d .ensures .1) .1
+    (fit-front _ _ _ _ (sym (c .before .before .n .given .1) ∙ d .ensures .0) (d .ensures .1) .1, refl)
 
 returns-2 : tie.Need-returns-2
 returns-2 c =
     let dump-into = c .before .before .before .before .before .dump-into in
-    sym (unfit-part _ _ (short-told _ _ _ (sym (c .before .enum-told .given .1) ∙ dump-into .ensures .0)))
+    (sym (unfit-part _ _ (short-told _ _ _ (sym (c .before .enum-told .given .1) ∙ dump-into .ensures .0))), refl)
 
 pub proc-dump-spec : {M : Type 1} → statement M
 proc-dump-spec =

@@ -1,16 +1,15 @@
 -- Document 01's table of refusals, read by call: the lines that name it, whether each holds, and the order in which they count.
-use Prim.Native.Nat.{ℕ, suc}
+use Prim.Native.Nat.{ℕ, suc, _+_, _%_}
 use mathlib.Core.Bool.{Bool, true, false, not, cond, _&&_, _||_}
 use mathlib.Core.List.{List, [], _∷_}
 use mathlib.Core.Option.{Option, none, some}
 use lib.ListN.{length}
 use lib.Dec.{eqb, leb, ltb}
 use lib.IntN.{ℤ, pos, negsuc, _+ℤ_}
-use Rattle.promises.specs.Types.{Pid, UNUSED, ALLOCATED, ZOMBIE, Parent, Nobody, Of, Member, Alone, In, Process, Answer, Done, Made, Handed, Reaped, Joined, Blocked, Refused}
-use Rattle.rules.specs.Sizes.{hartCount, pidTop, nameSize, sizeTop, firstDevice}
+use Rattle.promises.specs.Types.{Pid, UNUSED, ALLOCATED, ZOMBIE, Parent, Nobody, Of, Member, Alone, In, Process, Wish, NotWanted, Writable, Unwritable, ThreadAsk, Mapped, Answer, Done, Made, Handed, Reaped, Joined, Blocked, Refused}
+use Rattle.rules.specs.Sizes.{hartCount, pidTop, nameSize, pageSize, addressTop, sizeTop, firstDevice}
 use Rattle.rules.specs.Answers.{numberOf}
-use Rattle.rules.specs.Model.{Table, at, hartAt, groupAt, is, isSlot, known}
-use Rattle.rules.specs.Calls.{wrongAsk, unmapped, hasPid, unwritable, childOf, zombieChildOf, threadNamed, upward}
+use Rattle.rules.specs.Model.{Table, at, hartAt, groupAt, is, isSlot, known, sameGroup}
 use Rattle.rules.specs.Runs.{Call, boot, start, spawn, systemReturn, fork, thread, dispatch, yield, sleep, wakeup, kill, wait, join, threadExit, exit, grow}
 
 -- ---- what lines ask
@@ -40,15 +39,46 @@ abbrev pub outside : ℤ → Bool
 outside (pos n) = ltb sizeTop n
 outside (negsuc n) = true
 
+-- 8: what must be of a thread's addresses, in a group of that size
+unfoldable pub rightAddresses : ThreadAsk → ℕ → Bool
+rightAddresses a size =
+    leb (a .stack + pageSize) addressTop && eqb (a .stack % pageSize) 0 && leb (a .stack + pageSize) size && ltb (a .entry) size && ltb (a .ret) size
+
+-- 9: some answer of the host is no
+unfoldable pub someUnmapped : Mapped → Bool
+someUnmapped m = not (m .entry) || not (m .ret) || not (m .stack) || not (m .top)
+
+-- 10: a slot that isn't UNUSED, with that pid
+abbrev pub withPid : Pid → Process → Bool
+withPid p q = not (is UNUSED q) && eqb (q .meta .pid .0) (p .0)
+
+-- 10, 11: a child of slot s that is no thread; the thread of that pid in a group
+abbrev pub child : ℕ → Process → Bool
+child s q = isSlot s (q .kin .parent) && not (q .kin .thread)
+
+abbrev pub threadWith : Pid → Member → Process → Bool
+threadWith p m q = q .kin .thread && sameGroup m (q .kin .group) && eqb (q .meta .pid .0) (p .0)
+
 unfoldable pub childless : Table → ℕ → Bool
-childless t s = not (someSlot t (λ _. childOf s))
+childless t s = not (someSlot t (λ _. child s))
 
 unfoldable pub hasZombieChild : Table → ℕ → Bool
-hasZombieChild t s = someSlot t (λ _. zombieChildOf s)
+hasZombieChild t s = someSlot t (λ _ q. is ZOMBIE q && child s q)
 
 -- the thread that join names is in another slot than the caller's, and passes
 unfoldable pub namedElsewhere : Table → ℕ → Pid → (Process → Bool) → Bool
-namedElsewhere t s p test = someSlot t (λ i q. not (eqb i s) && (threadNamed p (at (t .core) s .kin .group) q && test q))
+namedElsewhere t s p test = someSlot t (λ i q. not (eqb i s) && (threadWith p (at (t .core) s .kin .group) q && test q))
+
+-- 11: the status is wanted and unwritable
+abbrev pub cannotWrite : Wish → Bool
+cannotWrite NotWanted = false
+cannotWrite Writable = false
+cannotWrite Unwritable = true
+
+-- 18: the count is positive
+abbrev pub positive : ℤ → Bool
+positive (pos n) = ltb 0 n
+positive (negsuc n) = false
 
 -- ---- the lines that name a call, in the table's order
 pub record Line : Type 0 where
@@ -82,27 +112,27 @@ module _ (t : Table) where
   linesOf (systemReturn h) = hartLines h (line 13 (caller h λ s. not (at (t .core) s .kin .system)) ∷ [])
   linesOf (fork h memory) = hartLines h (slotLines (groupLine h (line 18 (not memory) ∷ [])))
   linesOf (thread h a m) = hartLines h (slotLines (groupLine h (
-      line 8 (caller h λ s. ofGroup (at (t .core) s .kin .group) λ g. wrongAsk a (groupAt (t .books) g .size)) ∷ line 9 (unmapped m) ∷ []
+      line 8 (caller h λ s. ofGroup (at (t .core) s .kin .group) λ g. not (rightAddresses a (groupAt (t .books) g .size))) ∷ line 9 (someUnmapped m) ∷ []
       )))
   linesOf (dispatch h) = line 1 (leb hartCount h) ∷ line 3 (known (hartAt (t .core) h)) ∷ line 4 (eqb (length (t .core .queue)) 0) ∷ []
   linesOf (yield h) = hartLines h []
   linesOf (sleep h ch) = hartLines h (line 14 (ltb ch firstDevice) ∷ [])
   linesOf (wakeup ch) = line 14 (ltb ch firstDevice) ∷ []
-  linesOf (kill p) = line 10 (not (someSlot t (λ _. hasPid p))) ∷ []
+  linesOf (kill p) = line 10 (not (someSlot t (λ _. withPid p))) ∷ []
   linesOf (wait h w) = hartLines h (
       line 10 (caller h λ s. childless t s || (at (t .core) s .meta .killed && not (hasZombieChild t s)))
-      ∷ line 11 (caller h λ s. hasZombieChild t s && unwritable w)
+      ∷ line 11 (caller h λ s. hasZombieChild t s && cannotWrite w)
       ∷ []
       )
   linesOf (join h p w) = hartLines h (groupLine h (
       line 10 (caller h λ s. not (namedElsewhere t s p (λ _. true)))
-      ∷ line 11 (caller h λ s. namedElsewhere t s p (is ZOMBIE) && unwritable w)
+      ∷ line 11 (caller h λ s. namedElsewhere t s p (is ZOMBIE) && cannotWrite w)
       ∷ []
       ))
   linesOf (threadExit h x) = hartLines h (line 13 (caller h λ s. isSlot s (t .books .init) || at (t .core) s .kin .system) ∷ [])
   linesOf (exit h x) = hartLines h (line 13 (caller h λ s. isSlot s (t .books .init) || at (t .core) s .kin .system || at (t .core) s .kin .thread) ∷ [])
   linesOf (grow h d memory) = hartLines h (groupLine h (
-      line 17 (caller h λ s. ofGroup (at (t .core) s .kin .group) λ g. outside (pos (groupAt (t .books) g .size) +ℤ d)) ∷ line 18 (upward d && not memory) ∷ []
+      line 17 (caller h λ s. ofGroup (at (t .core) s .kin .group) λ g. outside (pos (groupAt (t .books) g .size) +ℤ d)) ∷ line 18 (positive d && not memory) ∷ []
       ))
 
 -- ---- the order

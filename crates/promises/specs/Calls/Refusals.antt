@@ -13,11 +13,11 @@ use borrow.Author.Tests.{eqb-true, eq-eqb, ne-eqb, leb-true, leb-false, lt-ltb, 
 use Rattle.promises.specs.Types.{Pid, UNUSED, ZOMBIE, Parent, Nobody, Of, Member, In, Process, Wish, ThreadAsk, Mapped, NoSuchHart, HartBusy, NoneSuch, StatusUnwritable, InitOutOfTurn, WrongWayOut, NotADevice, NameTooLong, NoMemory, BadAddress, Unmapped, SizeOutOfLimits}
 use Rattle.rules.specs.Sizes.{hartCount, pidTop, sizeTop}
 use Rattle.rules.specs.Answers.{numberOf}
-use Rattle.rules.specs.Model.{Table, at, hartAt, free, is, known}
+use Rattle.rules.specs.Model.{Table, at, hartAt, groupAt, free, is, known}
 use Rattle.rules.specs.Moves.{lowest}
-use Rattle.rules.specs.Calls.{Outcome, gives, moves, refuse, spent, madeIn, bootedIn, booted, startedAt, started, spawnedIn, spawned, systemReturnedBy, systemReturned, forkedIn, forkedBy, forked, threadedIn, threadedBy, threaded, handNext, dispatched, yielded, slept, woken, hasPid, killed, isThere, childOf, zombieChildOf, waitedFor, waited, threadOf, threadNamed, joinedTo, joinedBy, joined, threadEnded, reapThreads, exitedPast, leaderExited, exitedBy, exited, threadExitedBy, threadExited, within, grownTo, grownBy, grown}
+use Rattle.rules.specs.Calls.{Outcome, gives, moves, refuse, spent, madeIn, bootedIn, booted, startedAt, started, spawnedIn, spawned, systemReturnedBy, systemReturned, forkedIn, forkedBy, forked, threadedIn, wrongAsk, unmapped, threadedBy, threaded, handNext, dispatched, yielded, slept, woken, hasPid, killed, isThere, childOf, zombieChildOf, waitedFor, waited, threadOf, threadNamed, joinedTo, joinedBy, joined, threadEnded, reapThreads, exitedPast, leaderExited, exitedBy, exited, threadExitedBy, threadExited, within, upward, grownTo, grownBy, grown}
 use Rattle.rules.specs.Runs.{Call, boot, start, spawn, systemReturn, fork, thread, dispatch, yield, sleep, wakeup, kill, wait, join, threadExit, exit, grow, step}
-use Rattle.promises.specs.Laws.Bools.{and-no, and-yes, and-left, and-right, clash}
+use Rattle.promises.specs.Laws.Bools.{and-no, and-yes, and-left, and-right, not-both, clash}
 use Rattle.promises.specs.Laws.Scans.{lowest-passes, lowest-range, lowest-none}
 use Rattle.promises.specs.Order.Sound.{Sound}
 use Rattle.promises.specs.Order.States.{used-range, runs-used}
@@ -25,7 +25,7 @@ use Rattle.promises.specs.Order.Chains.{runs}
 use Rattle.promises.specs.Calls.Shape.{refuseIf-any, found-any, onHart-any, inGroup-any, taking-any}
 use Rattle.promises.specs.Calls.Exits.{thread-used}
 use Rattle.promises.specs.Calls.SomeSlot.{some-yes, some-no, scan-none, scan-some, scan-any}
-use Rattle.promises.specs.Calls.RefusalTable.{refusalOf, outside, childless, hasZombieChild, namedElsewhere, linesOf, order, due, firstOf}
+use Rattle.promises.specs.Calls.RefusalTable.{refusalOf, outside, rightAddresses, someUnmapped, childless, hasZombieChild, namedElsewhere, linesOf, order, due, firstOf}
 
 -- the call's refusal is the one that the table and the order have
 unfoldable pub Right : Table → Call → Outcome → Type 0
@@ -75,15 +75,31 @@ module _ (t : Table) (w : Sound t) where
       refuseIf-any (Right t (fork h memory)) _ NoMemory (spent t) _
       (λ b. rw (a, e, m, counter-low l, scan-some t (is UNUSED) c o, b) refl) λ b. rw (a, e, m, counter-low l, scan-some t (is UNUSED) c o, b) refl
 
+  -- a thread's addresses and the host's answers, as the rule tests them
+  not-leb : (m n : ℕ) → not (leb m n) ≡ ltb n m
+  not-leb m n = go (leb m n) refl
+    where
+      go : (b : Bool) → leb m n ≡ b → not b ≡ ltb n m
+      go true e = sym (le-ltb n m (leb-true m n e))
+      go false e = sym (lt-ltb n m (leb-false m n e))
+
+  addresses-wrong : (a : ThreadAsk) (size : ℕ) → not (rightAddresses a size) ≡ wrongAsk a size
+  unfolding rightAddresses wrongAsk
+  addresses-wrong a size = simp (not-both, not-leb)
+
+  answers-no : (m : Mapped) → someUnmapped m ≡ unmapped m
+  unfolding someUnmapped unmapped
+  answers-no m = simp not-both
+
   threaded-when : (h : ℕ) (x : ThreadAsk) (p : Mapped) → Right t (thread h x p) (threaded t h x p)
   unfolding Right threaded threadedBy threadedIn madeIn gives refuse numberOf linesOf order due firstOf
   threaded-when h x p =
       onHart-any (Right t (thread h x p)) t h _ (λ a. rw a refl) (λ a e. rw (a, e) refl) λ s a e.
-      inGroup-any (Right t (thread h x p)) t s _ (λ m. rw (a, e, m) refl) λ g m.
-      refuseIf-any (Right t (thread h x p)) _ BadAddress t _ (λ b. rw (a, e, m, b) refl) λ b.
-      refuseIf-any (Right t (thread h x p)) _ Unmapped t _ (λ d. rw (a, e, m, b, d) refl) λ d.
-      taking-any (Right t (thread h x p)) t _ (λ f. rw (a, e, m, b, d, counter-top f) refl) (λ l o. rw (a, e, m, b, d, counter-low l, scan-none t (is UNUSED) o) refl) λ c l o.
-      rw (a, e, m, b, d, counter-low l, scan-some t (is UNUSED) c o) refl
+      inGroup-any (Right t (thread h x p)) t s _ (λ m. rw (a, e, m) refl) λ g m. let asked = addresses-wrong x (groupAt (t .books) g .size) in
+      refuseIf-any (Right t (thread h x p)) _ BadAddress t _ (λ b. rw (a, e, m, asked ∙ b) refl) λ b.
+      refuseIf-any (Right t (thread h x p)) _ Unmapped t _ (λ d. rw (a, e, m, asked ∙ b, answers-no p ∙ d) refl) λ d. let right = asked ∙ b in let yes = answers-no p ∙ d in
+      taking-any (Right t (thread h x p)) t _ (λ f. rw (a, e, m, right, yes, counter-top f) refl) (λ l o. rw (a, e, m, right, yes, counter-low l, scan-none t (is UNUSED) o) refl) λ c l o.
+      rw (a, e, m, right, yes, counter-low l, scan-some t (is UNUSED) c o) refl
 
   dispatched-when : (h : ℕ) → Right t (dispatch h) (dispatched t h)
   unfolding Right dispatched handNext moves gives refuse numberOf linesOf order due firstOf
@@ -111,21 +127,21 @@ module _ (t : Table) (w : Sound t) where
   woken-when ch = refuseIf-any (Right t (wakeup ch)) _ NotADevice t _ (λ b. rw b refl) λ b. rw b refl
 
   killed-when : (p : Pid) → Right t (kill p) (killed t p)
-  unfolding Right killed moves gives refuse numberOf linesOf order due firstOf
+  unfolding Right killed hasPid moves gives refuse numberOf linesOf order due firstOf
   killed-when p = found-any (Right t (kill p)) NoneSuch t _ _ (λ o. rw (scan-none t (hasPid p) o) refl) λ i o. rw (scan-some t (hasPid p) i o) refl
 
   -- ---- wait
   zombie-is-child : (s i : ℕ) → lowest (zombieChildOf s) (t .core .slots) ≡ some i → childless t s ≡ false
-  unfolding childless zombieChildOf
+  unfolding childless zombieChildOf childOf
   zombie-is-child s i o = ap not (some-yes t (λ _. childOf s) i (lowest-range (zombieChildOf s) (t .core .slots) free i o)
       (and-right (is ZOMBIE (at (t .core) i)) (childOf s (at (t .core) i)) (lowest-passes (zombieChildOf s) (t .core .slots) free i o)))
 
   childless-scan : (s : ℕ) → childless t s ≡ not (isThere (lowest (childOf s) (t .core .slots)))
-  unfolding childless
+  unfolding childless childOf
   childless-scan s = ap not (scan-any t (childOf s))
 
   waited-when : (h : ℕ) (x : Wish) → Right t (wait h x) (waited t h x)
-  unfolding Right waited waitedFor hasZombieChild moves gives refuse numberOf linesOf order due firstOf
+  unfolding Right waited waitedFor hasZombieChild zombieChildOf childOf moves gives refuse numberOf linesOf order due firstOf
   waited-when h x = onHart-any (Right t (wait h x)) t h _ (λ a. rw a refl) (λ a e. rw (a, e) refl) λ s a e. go s a e (lowest (zombieChildOf s) (t .core .slots)) refl
     where
       go : (s : ℕ) → leb hartCount h ≡ false → runs t h s → (o : Option ℕ) → lowest (zombieChildOf s) (t .core .slots) ≡ o → Right t (wait h x) (waitedFor t h x s o)
@@ -146,7 +162,7 @@ module _ (t : Table) (w : Sound t) where
   -- where one slot has the pid, another passes nowhere
   elsewhere-no : (s : ℕ) (p : Pid) (test : Process → Bool)
       → ((i : ℕ) → i ≢ s → threadNamed p (at (t .core) s .kin .group) (at (t .core) i) ≡ true → test (at (t .core) i) ≡ true → ⊥) → namedElsewhere t s p test ≡ false
-  unfolding namedElsewhere
+  unfolding namedElsewhere threadNamed threadOf
   elsewhere-no s p test never = some-no t _ λ i r. go i (eqb i s) refl (threadNamed p (at (t .core) s .kin .group) (at (t .core) i)) refl (test (at (t .core) i)) refl
     where
       go : (i : ℕ) (a : Bool) → eqb i s ≡ a → (b : Bool) → threadNamed p (at (t .core) s .kin .group) (at (t .core) i) ≡ b → (c : Bool) → test (at (t .core) i) ≡ c → not a && (b && c) ≡ false
@@ -157,7 +173,7 @@ module _ (t : Table) (w : Sound t) where
 
   elsewhere-yes : (s i : ℕ) (p : Pid) (test : Process → Bool) → i ≢ s → i < length (t .core .slots) → threadNamed p (at (t .core) s .kin .group) (at (t .core) i) ≡ true → test (at (t .core) i) ≡ true
       → namedElsewhere t s p test ≡ true
-  unfolding namedElsewhere
+  unfolding namedElsewhere threadNamed threadOf
   elsewhere-yes s i p test n r e f = some-yes t _ i r (rw (ne-eqb i s n, e, f) refl)
 
   joined-when : (h : ℕ) (p : Pid) (x : Wish) → Right t (join h p x) (joined t h p x)
@@ -238,7 +254,7 @@ module _ (t : Table) (w : Sound t) where
   within-some (negsuc k) n o = let z : _≡_ {A = ℕ} 0 1 = cc in absurd (omega arith)
 
   grown-when : (h : ℕ) (d : ℤ) (memory : Bool) → Right t (grow h d memory) (grown t h d memory)
-  unfolding Right grown grownBy grownTo gives refuse numberOf linesOf order due firstOf
+  unfolding Right grown grownBy grownTo upward gives refuse numberOf linesOf order due firstOf
   grown-when h d memory =
       onHart-any (Right t (grow h d memory)) t h _ (λ a. rw a refl) (λ a e. rw (a, e) refl) λ s a e.
       inGroup-any (Right t (grow h d memory)) t s _ (λ m. rw (a, e, m) refl) λ g m.

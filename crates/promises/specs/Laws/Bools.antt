@@ -2,7 +2,7 @@
 use Prim.Native.Nat.{ℕ}
 use native.Mathlib.Omega.{arith}
 use mathlib.Core.Path.{_≡_, refl}
-use mathlib.Core.Bool.{Bool, true, false, _&&_, _||_}
+use mathlib.Core.Bool.{Bool, true, false, not, _&&_, _||_}
 
 pub and-left : (a b : Bool) → (a && b) ≡ true → a ≡ true
 and-left true b e = refl
@@ -39,3 +39,7 @@ and-yes false e = refl
 pub or-yes : (a : Bool) {b : Bool} → b ≡ true → a || b ≡ true
 or-yes true e = refl
 or-yes false e = e
+
+pub not-both : (a b : Bool) → not (a && b) ≡ not a || not b
+not-both true b = refl
+not-both false b = refl
