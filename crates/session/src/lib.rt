@@ -8,6 +8,9 @@ ghost use Rattle.session.specs.Turns.{placeOf, afterRoom, Heard, HeardSo
 use talk::Place;
 use words::Table;
 
+// Room for what waits to be written, and for one more answer.
+const ROOM: usize = 2 * desk::TOP;
+
 enum Turn {
     Goes(Place),
     Ends(Place),
@@ -115,7 +118,7 @@ pub fn run() {
     let mut t = new.words;
     let mut line = [0u8; talk::LINE];
     let mut name = [0u8; talk::LINE];
-    let mut out = io::large_buffer();
+    let mut out = [0u8; ROOM];
     let start = talk::start();
     let p = hear(&mut t, &mut line, &mut name, &mut out, start);
     let e = talk::close(&mut t, &line, &mut name, &mut out, p);
