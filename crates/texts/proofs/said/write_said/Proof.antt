@@ -1,4 +1,6 @@
-use Rattle.buffers.proofs.TextLaws.{wrote-as}
+use native.Mathlib.Omega.{arith}
+use lib.Dec.{lit≤}
+use Rattle.buffers.proofs.TextLaws.{wrote-as, wrote-near}
 use mir.Facts.{toZ-ofZ}
 use Rattle.rules.specs.declared.Answer.the-variants.{Done, Blocked}
 use Rattle.pieces.specs.Pieces.{field}
@@ -98,49 +100,79 @@ same-length c = search needs
 
 returns : tie.Need-returns
 unfolding saidOf bytes
-returns c = (wrote-as saidOf Done {x = c .before .before .before .before .before .before .before .before .args .a} (cc) (c .before .before .write .ensures), search needs)
+returns c =
+    let entry = c .before .before .before .before .before .before .before .before in
+    wrote-near saidOf Done {x = entry .args .a} (cc) (lit≤ tt) (c .before .before .write .ensures)
 
 same-length-2 : tie.Need-same-length-2
 same-length-2 c = search needs
 
 returns-2 : tie.Need-returns-2
 unfolding saidOf field bytes
-returns-2 c = (wrote-as saidOf _ {x = c .before .before .before .before .before .before .before .before .before .args .a} (c .before .before .before .before .before .before .a .given .1) (c .before .before .write-field .ensures .0), search needs)
+returns-2 c =
+    let a = c .before .before .before .before .before .before .a in
+    let entry = c .before .before .before .before .before .before .before .before .before in
+    let write-field = c .before .before .write-field in
+    (wrote-as saidOf _ {x = entry .args .a} (a .given .1) (write-field .ensures .0), omega (arith, write-field .ensures .1))
 
 same-length-3 : tie.Need-same-length-3
 same-length-3 c = search needs
 
 returns-3 : tie.Need-returns-3
 unfolding saidOf field bytes
-returns-3 c = (wrote-as saidOf _ {x = c .before .before .before .before .before .before .before .before .before .args .a} (c .before .before .before .before .before .before .a2 .given .1) (c .before .before .write-field2 .ensures .0), search needs)
+returns-3 c =
+    let a2 = c .before .before .before .before .before .before .a2 in
+    let entry = c .before .before .before .before .before .before .before .before .before in
+    let write-field2 = c .before .before .write-field2 in
+    (wrote-as saidOf _ {x = entry .args .a} (a2 .given .1) (write-field2 .ensures .0), omega (arith, write-field2 .ensures .1))
 
 same-length-4 : tie.Need-same-length-4
 same-length-4 c = search needs
 
 returns-4 : tie.Need-returns-4
 unfolding saidOf field bytes
-returns-4 c = (wrote-as saidOf _ {x = c .before .before .before .before .before .before .before .before .before .before .before .before .before .before .args .a} (c .before .before .before .before .before .before .before .before .before .before .before .a3 .given .1) (wrote-more (c .before .before .before .before .before .before .before .write-field3 .ensures .0) (c .before .before .write-field4 .ensures .0)), search needs)
+returns-4 c =
+    let a3 = c .before .before .before .before .before .before .before .before .before .before .before .a3 in
+    let entry = c .before .before .before .before .before .before .before .before .before .before .before .before .before .before in
+    let write-field3 = c .before .before .before .before .before .before .before .write-field3 in
+    let write-field4 = c .before .before .write-field4 in
+    (wrote-as saidOf _ {x = entry .args .a} (a3 .given .1) (wrote-more (write-field3 .ensures .0) (write-field4 .ensures .0)), omega (arith, write-field3 .ensures .1, write-field4 .ensures .1))
 
 same-length-5 : tie.Need-same-length-5
 same-length-5 c = search needs
 
 returns-5 : tie.Need-returns-5
 unfolding saidOf bytes
-returns-5 c = (wrote-as saidOf _ {x = c .before .before .before .before .before .before .before .before .before .before .before .before .before .args .a} (c .before .before .before .before .before .before .before .before .before .before .a4 .given .1) (rw (toZ-ofZ (record { sfits = c .before .before .before .before .before .before .before .before .before .known-told4 .given .0 .1 })) at (wrote-more (c .before .before .before .before .before .before .write2 .ensures) (c .before .before .write-signed .ensures .0))), search needs)
+returns-5 c =
+    let a4 = c .before .before .before .before .before .before .before .before .before .before .a4 in
+    let known-told4 = c .before .before .before .before .before .before .before .before .before .known-told4 in
+    let entry = c .before .before .before .before .before .before .before .before .before .before .before .before .before in
+    let write2 = c .before .before .before .before .before .before .write2 in
+    let write-signed = c .before .before .write-signed in
+    (wrote-as saidOf _ {x = entry .args .a} (a4 .given .1) (rw (toZ-ofZ (record { sfits = known-told4 .given .0 .1 })) at (wrote-more (write2 .ensures) (write-signed .ensures .0))), omega (arith, write2 .ensures .place, write-signed .ensures .1))
 
 same-length-6 : tie.Need-same-length-6
 same-length-6 c = search needs
 
 returns-6 : tie.Need-returns-6
 unfolding saidOf bytes
-returns-6 c = (wrote-as saidOf Blocked {x = c .before .before .before .before .before .before .before .before .args .a} (cc) (c .before .before .write3 .ensures), search needs)
+returns-6 c =
+    let entry = c .before .before .before .before .before .before .before .before in
+    wrote-near saidOf Blocked {x = entry .args .a} (cc) (lit≤ tt) (c .before .before .write3 .ensures)
 
 same-length-7 : tie.Need-same-length-7
 same-length-7 c = search needs
 
 returns-7 : tie.Need-returns-7
 unfolding saidOf field bytes
-returns-7 c = (wrote-as saidOf _ {x = c .before .before .before .before .before .before .before .before .before .before .before .before .before .before .before .before .before .before .before .args .a} (c .before .before .before .before .before .before .before .before .before .before .before .before .before .before .before .before .a5 .given .1) (rw (c .before .before .before .before .before .before .before .before .before .before .before .before .number-of .ensures) at (wrote-more (wrote-more (c .before .before .before .before .before .before .before .before .before .before .before .write-field5 .ensures .0) (c .before .before .before .before .before .before .write4 .ensures)) (c .before .before .write-refusal .ensures .0))), search needs)
+returns-7 c =
+    let a5 = c .before .before .before .before .before .before .before .before .before .before .before .before .before .before .before .before .a5 in
+    let entry = c .before .before .before .before .before .before .before .before .before .before .before .before .before .before .before .before .before .before .before in
+    let number-of = c .before .before .before .before .before .before .before .before .before .before .before .before .number-of in
+    let write-field5 = c .before .before .before .before .before .before .before .before .before .before .before .write-field5 in
+    let write4 = c .before .before .before .before .before .before .write4 in
+    let write-refusal = c .before .before .write-refusal in
+    (wrote-as saidOf _ {x = entry .args .a} (a5 .given .1) (rw (number-of .ensures) at (wrote-more (wrote-more (write-field5 .ensures .0) (write4 .ensures)) (write-refusal .ensures .0))), omega (arith, write-field5 .ensures .1, write4 .ensures .place, write-refusal .ensures .1))
 
 pub write-said-spec : {M : Type 1} → statement M
 write-said-spec =
