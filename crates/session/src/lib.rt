@@ -3,10 +3,12 @@ ghost use mathlib.Core.Path.{_≡_};
 ghost use Prim.Native.Nat.{_+_, _≤_};
 ghost use lib.ListN.{length};
 ghost use Rattle.desk.specs.Desk.{deskTop};
-ghost use Rattle.talk.specs.Places.{seatOf, Ready};
+ghost use Rattle.session.specs.Places.{seatOf, Ready};
 ghost use Rattle.session.specs.Turns.{placeOf, afterRoom, Heard, HeardSome};
 use talk::Place;
 use words::Table;
+
+pub mod talk; // but for reading and writing: the input cut into lines, and answered
 
 // Room for what waits to be written, and for one more answer.
 const ROOM: usize = 2 * desk::TOP;

@@ -1,10 +1,10 @@
-use Rattle.talk.proofs.TalkLaws.{line-ended, too-long, short, in-full}
+use Rattle.session.proofs.TalkLaws.{line-ended, too-long, short, in-full}
 use native.Mathlib.Omega.{arith}
 use lib.Seq.{length-take-le}
 use mathlib.Core.Path.{sym}
 use borrow.Author.Needs.{needs}
-use Rattle.talk.proofs.end_line.Statement.{statement}
-use Rattle.talk.proofs.end_line.Tie as tie
+use Rattle.session.proofs.talk.end_line.Statement.{statement}
+use Rattle.session.proofs.talk.end_line.Tie as tie
 
 wrapping-add-u64-requires : tie.Need-wrapping-add-u64-requires
 wrapping-add-u64-requires c κs = search needs

@@ -5,10 +5,10 @@ use mathlib.Core.Path.{_≡_, refl, ap, _∙_}
 use mathlib.Core.List.{List}
 use lib.ListN.{length, take}
 use lib.Seq.{length-take-le}
-use Rattle.talk.specs.declared.Place.{Place}
-use Rattle.talk.specs.declared.Taken.{Taken}
-use Rattle.talk.specs.Talk.{Seat, hears}
-use Rattle.talk.specs.Places.{seatOf, Ready, HeardPart}
+use Rattle.session.specs.declared.talk.Place.{Place}
+use Rattle.session.specs.declared.talk.Taken.{Taken}
+use Rattle.session.specs.Talk.{Seat, hears}
+use Rattle.session.specs.Places.{seatOf, Ready, HeardPart}
 
 module _ {t line name out : List ℕ} {p : Place} (a : Ready t line name out p) (piece : List ℕ) {u l d : List ℕ} {r : Taken}
     (k : HeardPart (seatOf t line out p) piece u l d r) (same : length d ≡ length out) (some : 0 < length piece) where

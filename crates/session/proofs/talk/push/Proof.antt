@@ -1,8 +1,8 @@
-use Rattle.talk.proofs.TalkLaws.{kept-none, kept-one}
+use Rattle.session.proofs.TalkLaws.{kept-none, kept-one}
 use native.Mathlib.Omega.{arith}
 use borrow.Author.Needs.{needs}
-use Rattle.talk.proofs.push.Statement.{statement}
-use Rattle.talk.proofs.push.Tie as tie
+use Rattle.session.proofs.talk.push.Statement.{statement}
+use Rattle.session.proofs.talk.push.Tie as tie
 
 returns : tie.Need-returns
 returns c = (kept-none (c .before .args .line .now) (c .before .args .len) (c .before .pre .0) (omega arith) (c .before .pre .1) (c .before .args .b), c .before .pre .1)

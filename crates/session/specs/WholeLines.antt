@@ -8,8 +8,8 @@ use lib.ListN.{length, take, length-append}
 use lib.Seq.{take-all, take-at, append-snoc, length-take-le}
 use lib.Dec.{ltb}
 use borrow.Author.Tests.{ltb-true, ltb-false, lt-ltb, ne-eqb}
-use Rattle.talk.specs.Talk.{Seat, longestLine, newline, lineMeans, ended, kept, heard, hears}
-use Rattle.talk.specs.Places.{lineRoom}
+use Rattle.session.specs.Talk.{Seat, longestLine, newline, lineMeans, ended, kept, heard, hears}
+use Rattle.session.specs.Places.{lineRoom}
 
 pub in-pieces : (s : Seat) (a b : List ℕ) → hears s (a ++ b) ≡ hears (hears s a) b
 unfolding hears

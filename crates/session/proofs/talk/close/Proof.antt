@@ -1,8 +1,8 @@
 use native.Mathlib.Omega.{arith}
-use Rattle.talk.proofs.TalkLaws.{closed-empty, closed-line}
+use Rattle.session.proofs.TalkLaws.{closed-empty, closed-line}
 use borrow.Author.Needs.{needs}
-use Rattle.talk.proofs.close.Statement.{statement}
-use Rattle.talk.proofs.close.Tie as tie
+use Rattle.session.proofs.talk.close.Statement.{statement}
+use Rattle.session.proofs.talk.close.Tie as tie
 
 returns : tie.Need-returns
 returns c =

@@ -1,7 +1,7 @@
-use Rattle.talk.proofs.TalkLaws.{heard-end, heard-more}
+use Rattle.session.proofs.TalkLaws.{heard-end, heard-more}
 use borrow.Author.Needs.{needs}
-use Rattle.talk.proofs.feed.Statement.{statement}
-use Rattle.talk.proofs.feed.Tie as tie
+use Rattle.session.proofs.talk.feed.Statement.{statement}
+use Rattle.session.proofs.talk.feed.Tie as tie
 
 end-line-requires : tie.Need-end-line-requires
 end-line-requires c κs = search needs

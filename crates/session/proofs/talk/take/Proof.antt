@@ -1,12 +1,12 @@
-use Rattle.talk.proofs.TalkLaws.{Midway, none-heard, ready, next, took}
+use Rattle.session.proofs.TalkLaws.{Midway, none-heard, ready, next, took}
 use native.Mathlib.Omega.{arith}
 use Rattle.rules.specs.Sizes.{slotCount, hartCount, nameSize}
-use Rattle.talk.specs.Places.{seatOf}
+use Rattle.session.specs.Places.{seatOf}
 use lib.ListN.{length}
 use mathlib.Core.Path.{refl}
 use Prim.Native.Nat.{_-_}
-use Rattle.talk.proofs.take.Statement.{statement}
-use Rattle.talk.proofs.take.Tie as tie
+use Rattle.session.proofs.talk.take.Statement.{statement}
+use Rattle.session.proofs.talk.take.Tie as tie
 
 abbrev Inv-loop : tie.InvT-loop
 Inv-loop t₀ chunk line₀ name₀ out₀ last len₀ number₀ at₀ used₀ t line name out len number at used = Midway (seatOf t₀ line₀ out₀ (record { len = len₀; number = number₀; at = at₀ })) chunk line₀ name₀ out₀ t line name out len number at used

@@ -5,8 +5,8 @@ use mathlib.Core.Bool.{Bool, true, false, cond}
 use mathlib.Core.List.{List, [], _∷_, _++_, append-assoc, append-nil}
 use lib.ListN.{length}
 use lib.Dec.{eqb}
-use Rattle.talk.specs.Talk.{Seat, newline, ended, lengthened, heard, hears, closed, opened, answersTo}
-use Rattle.talk.specs.WholeLines.{in-pieces}
+use Rattle.session.specs.Talk.{Seat, newline, ended, lengthened, heard, hears, closed, opened, answersTo}
+use Rattle.session.specs.WholeLines.{in-pieces}
 
 -- a piece of the input is heard, and then what was said waits, or is written
 pub data Round : Type 0 where

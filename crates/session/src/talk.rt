@@ -2,8 +2,8 @@
 ghost use mathlib.Core.Path.{_≡_};
 ghost use Prim.Native.Nat.{_≤_};
 ghost use lib.ListN.{length, take};
-ghost use Rattle.talk.specs.Talk.{kept, ended, heard, closed};
-ghost use Rattle.talk.specs.Places.{lineRoom, seatOf, atStart, Ready, Seated, HeardPart};
+ghost use Rattle.session.specs.Talk.{kept, ended, heard, closed};
+ghost use Rattle.session.specs.Places.{lineRoom, seatOf, atStart, Ready, Seated, HeardPart};
 use lines::Why;
 use words::Table;
 

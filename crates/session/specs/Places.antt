@@ -6,9 +6,9 @@ use lib.ListN.{length, take}
 use Rattle.promises.specs.Order.Sound.{Sound}
 use Rattle.words.specs.Reading.{tableOf}
 use Rattle.desk.specs.Desk.{deskTop}
-use Rattle.talk.specs.declared.Place.{Place}
-use Rattle.talk.specs.declared.Taken.{Taken}
-use Rattle.talk.specs.Talk.{Seat, longestLine, hears}
+use Rattle.session.specs.declared.talk.Place.{Place}
+use Rattle.session.specs.declared.talk.Taken.{Taken}
+use Rattle.session.specs.Talk.{Seat, longestLine, hears}
 
 -- a line that fills its buffer is too long
 abbrev pub lineRoom : ℕ

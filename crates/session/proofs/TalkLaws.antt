@@ -16,10 +16,10 @@ use Rattle.buffers.proofs.TextLaws.{wrote-long}
 use Rattle.lines.specs.declared.Why.the-variants.{TooLong}
 use Rattle.lines.specs.Meaning.{means}
 use Rattle.desk.specs.Desk.{misreadText, tableAfter, textFor, misreadTop, deskTop, Answered}
-use Rattle.talk.specs.declared.Place.{Place}
-use Rattle.talk.specs.Talk.{Seat, longestLine, newline, lineMeans, ended, kept, heard, hears, closed}
-use Rattle.talk.specs.WholeLines.{in-pieces}
-use Rattle.talk.specs.Places.{lineRoom, seatOf, Ready, Seated, HeardPart}
+use Rattle.session.specs.declared.talk.Place.{Place}
+use Rattle.session.specs.Talk.{Seat, longestLine, newline, lineMeans, ended, kept, heard, hears, closed}
+use Rattle.session.specs.WholeLines.{in-pieces}
+use Rattle.session.specs.Places.{lineRoom, seatOf, Ready, Seated, HeardPart}
 
 -- the front of the buffer, with the text behind it
 wrote-front : {b p a : List ℕ} {k m : ℕ} → Wrote b k p a m → take m a ≡ take k b ++ p
