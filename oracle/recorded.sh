@@ -1,9 +1,10 @@
 #!/bin/sh
-# Makes crates/recorded/specs/Recorded.antt anew: the recorded sample of crates/replay, for the definitions to answer.
+# Makes crates/recorded/specs/Recorded.antt anew: the recorded sample in crates/worked, for the definitions to answer.
 # usage: recorded.sh [LISTS]   only the first LISTS lists
 here=$(cd "$(dirname "$0")" && pwd)
-replay=$here/../crates/replay
-exec awk -v most="${1:-0}" -v answers="$replay/stdout" '
+worked=$here/../crates/worked
+before=$("$here/runs/joined.sh" expected | wc -l) || exit 1
+exec awk -v most="${1:-0}" -v answers="$worked/stdout" -v before="$before" '
 function quoted(text) { gsub(/["\\]/, "\\\\&", text); return "\"" text "\"" }
 function next_answer() { more = (getline answer <answers) > 0 }
 function take() { back[++count] = answer; next_answer() }
@@ -38,8 +39,10 @@ BEGIN {
     print "use Rattle.rules.specs.Model.{fresh}"
     print "use Rattle.recorded.specs.Open.{everyLine}"
     print "use Rattle.recorded.specs.Replies.{Reply, reply, textOf, right, wrong}\n"
-    next_answer()
+    while (before-- >= 0) next_answer()
 }
+# document 01'\''s runs stand before the sample
+!sample { sample = /^# The recorded sample/; next }
 $0 == "fresh" {
     close_list()
     if (lists == most && most) { cut = 1; exit }
@@ -52,4 +55,4 @@ END {
     print "unfoldable pub recorded : List (List Reply)\nrecorded = " all("list", " ∷ ") " ∷ []\n"
     print "pub recorded-right : wrong 1 recorded ≡ []\nunfolding wrong recorded\nrecorded-right = rw (" all("right", ", ") ")"
     if (more && !cut) { print "recorded.sh: answers are left over" >"/dev/stderr"; exit 1 }
-}' "$replay/stdin" >"$here/../crates/recorded/specs/Recorded.antt"
+}' "$worked/stdin" >"$here/../crates/recorded/specs/Recorded.antt"

@@ -14,7 +14,7 @@ use Rattle.promises.specs.Laws.Bools.{and-left, and-right, clash}
 use Rattle.lines.specs.declared.word.Word.{Word}
 use Rattle.lines.specs.Words.{front, past, spaceIs, firstWord, afterWord, same, Cut}
 use Rattle.lines.specs.Kinds.{noKind}
-use Rattle.lines.specs.Grammar.{Command, command, grammar, commandCount, numberAmong, commandOf, isCommand, kindsOf, kindAt}
+use Rattle.lines.specs.Grammar.{Command, command, grammar, firstCall, commandCount, numberAmong, commandOf, isCommand, kindsOf, kindAt}
 
 -- ---- kinds
 -- at most nine of them, and each is one
@@ -95,31 +95,31 @@ module _ (k i : ℕ) (h : k < commandCount) where
   kind-past g = sym (List·getD-eq-default (kindsOf k) noKind (omega (arith, kinds-few k h)))
 
 -- ---- the numbers that the code has names for
-pub spawn-is : commandOf (bytes "spawn") ≡ 2
+pub spawn-is : commandOf (bytes "spawn") ≡ firstCall + 2
 unfolding commandOf numberAmong grammar command same bytes
 spawn-is = refl
 
-pub thread-is : commandOf (bytes "thread") ≡ 5
+pub thread-is : commandOf (bytes "thread") ≡ firstCall + 5
 unfolding commandOf numberAmong grammar command same bytes
 thread-is = refl
 
-pub list-is : commandOf (bytes "list") ≡ 16
+pub list-is : commandOf (bytes "list") ≡ 0
 unfolding commandOf numberAmong grammar command same bytes
 list-is = refl
 
-pub show-is : commandOf (bytes "show") ≡ 17
+pub show-is : commandOf (bytes "show") ≡ 1
 unfolding commandOf numberAmong grammar command same bytes
 show-is = refl
 
-pub fresh-is : commandOf (bytes "fresh") ≡ 18
+pub fresh-is : commandOf (bytes "fresh") ≡ 2
 unfolding commandOf numberAmong grammar command same bytes
 fresh-is = refl
 
-pub is-spawn : (k : ℕ) → k ≡ 2 → isCommand "spawn" k ≡ true
+pub is-spawn : (k : ℕ) → k ≡ firstCall + 2 → isCommand "spawn" k ≡ true
 unfolding isCommand
-is-spawn k e = rw spawn-is (eq-eqb k 2 e)
+is-spawn k e = rw spawn-is (eq-eqb k (firstCall + 2) e)
 
-pub spawn-alone : (k : ℕ) → isCommand "spawn" k ≡ true → k ≡ 2
+pub spawn-alone : (k : ℕ) → isCommand "spawn" k ≡ true → k ≡ firstCall + 2
 unfolding isCommand
 spawn-alone k e = eqb-true k _ e ∙ spawn-is
 
@@ -235,6 +235,6 @@ module _ (names w : List ℕ) where
           sought = v .sought ∙ omega (arith, placed false (told ∙ f));
         }
 
-pub names-spelled : bytes " boot start spawn system-return fork thread dispatch yield sleep wake kill wait join thread-exit exit grow list show fresh" ≡ spelled grammar
+pub names-spelled : bytes " list show fresh boot start spawn system-return fork thread dispatch yield sleep wake kill wait join thread-exit exit grow" ≡ spelled grammar
 unfolding spelled grammar command bytes
 names-spelled = refl

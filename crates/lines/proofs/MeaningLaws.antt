@@ -28,7 +28,7 @@ use Rattle.lines.specs.declared.arguments.Args.the-variants.{All, Not}
 use Rattle.lines.specs.Words.{firstWord, afterWord, Cut}
 use Rattle.lines.specs.Values.{nameGood, nameBytes, nameWorth, valueIn, argumentIn}
 use Rattle.lines.specs.Kinds.{aNumber, aName}
-use Rattle.lines.specs.Grammar.{command, grammar, commandCount, commandOf, isCommand, kindsOf}
+use Rattle.lines.specs.Grammar.{command, grammar, firstCall, commandCount, commandOf, isCommand, kindsOf}
 use Rattle.lines.specs.Meaning.{wordCount, Arguments, are, lack, andMore, argumentsIn, Told, passed, called, listed, shows, renews, misread, calledBy, wordsOf, commandMeans, withArguments, means, saidBy, meaningOf, NameThere}
 use Rattle.lines.proofs.GrammarLaws.{spawn-is, list-is, show-is, fresh-is, spawn-alone}
 use Rattle.lines.proofs.ArgumentLaws.{cut-length}
@@ -41,26 +41,26 @@ said-called name (some c) = refl
 
 -- ---- the command
 module _ (k : ℕ) (l w : List ℕ) where
-  pub by-list : k ≡ 16 → listed (getD w 1 0) ≡ commandMeans k l w
+  pub by-list : k ≡ 0 → listed (getD w 1 0) ≡ commandMeans k l w
   unfolding commandMeans isCommand
   by-list e = rw (spawn-is, list-is, e)
 
-  pub by-show : k ≡ 17 → shows ≡ commandMeans k l w
+  pub by-show : k ≡ 1 → shows ≡ commandMeans k l w
   unfolding commandMeans isCommand
   by-show e = rw (spawn-is, list-is, show-is, e)
 
-  pub by-fresh : k ≡ 18 → renews ≡ commandMeans k l w
+  pub by-fresh : k ≡ 2 → renews ≡ commandMeans k l w
   unfolding commandMeans isCommand
   by-fresh e = rw (spawn-is, list-is, show-is, fresh-is, e)
 
 module _ (k : ℕ) (l w name : List ℕ) where
-  pub by-spawn : k ≡ 2 → {text : List ℕ} → text ≡ firstWord l → {b : List ℕ} {n : ℕ} → Wrote b 0 (nameBytes text) name n → meaningOf name (Spawn n (getD w 2 0)) ≡ commandMeans k l w
+  pub by-spawn : k ≡ firstCall + 2 → {text : List ℕ} → text ≡ firstWord l → {b : List ℕ} {n : ℕ} → Wrote b 0 (nameBytes text) name n → meaningOf name (Spawn n (getD w 2 0)) ≡ commandMeans k l w
   unfolding commandMeans isCommand
   by-spawn e f u = rw (spawn-is, e) (ap (λ (x : List ℕ). called (rules.spawn x (getD w 2 0))) (wrote-front u ∙ ap nameBytes f))
 
-  pub by-call : (k ≡ 2 → ⊥) → (k ≡ 16 → ⊥) → (k ≡ 17 → ⊥) → (k ≡ 18 → ⊥) → {r : Said} → r ≡ saidBy (callIn (wordsOf k w)) → meaningOf name r ≡ commandMeans k l w
+  pub by-call : (k ≡ firstCall + 2 → ⊥) → (k ≡ 0 → ⊥) → (k ≡ 1 → ⊥) → (k ≡ 2 → ⊥) → {r : Said} → r ≡ saidBy (callIn (wordsOf k w)) → meaningOf name r ≡ commandMeans k l w
   unfolding commandMeans isCommand
-  by-call a b c d e = rw (spawn-is, list-is, show-is, fresh-is, ne-eqb k 2 a, ne-eqb k 16 b, ne-eqb k 17 c, ne-eqb k 18 d, e) (said-called name (callIn (wordsOf k w)))
+  by-call a b c d e = rw (spawn-is, list-is, show-is, fresh-is, ne-eqb k (firstCall + 2) a, ne-eqb k 0 b, ne-eqb k 1 c, ne-eqb k 2 d, e) (said-called name (callIn (wordsOf k w)))
 
 -- ---- a spawn that has its arguments has a name
 sized : (w : List ℕ) (v : ℕ) → nameWorth w ≡ Is v → nameGood w ≡ true

@@ -16,10 +16,13 @@ pub record Command : Type 0 where
 unfoldable pub command : S.String → S.String → Command
 command name kinds = record { name = bytes name; kinds = bytes kinds }
 
--- a command's number is its place here; the first sixteen are the calls, by the numbers that they have in words
+-- a command's number is its place here: first what is no call, then the calls in the order of their numbers, so that a new one is the last
 unfoldable pub grammar : List Command
 grammar =
-    command "boot" ""
+    command "list" "o"
+    ∷ command "show" ""
+    ∷ command "fresh" ""
+    ∷ command "boot" ""
     ∷ command "start" ""
     ∷ command "spawn" "sn"
     ∷ command "system-return" "n"
@@ -35,10 +38,11 @@ grammar =
     ∷ command "thread-exit" "nn"
     ∷ command "exit" "nn"
     ∷ command "grow" "ncy"
-    ∷ command "list" "o"
-    ∷ command "show" ""
-    ∷ command "fresh" ""
     ∷ []
+
+-- call 0
+abbrev pub firstCall : ℕ
+firstCall = 3
 
 abbrev pub commandCount : ℕ
 commandCount = 19

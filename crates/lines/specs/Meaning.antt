@@ -1,5 +1,5 @@
 -- What a line means.
-use Prim.Native.Nat.{ℕ, _+_, _*_}
+use Prim.Native.Nat.{ℕ, _+_, _-_, _*_}
 use Prim.Native.Char.{code}
 use mathlib.Core.Path.{_≡_}
 use mathlib.Core.Option.{Option, none, some}
@@ -22,7 +22,7 @@ use Rattle.lines.specs.declared.arguments.Args.{Args}
 use Rattle.lines.specs.declared.arguments.Args.the-variants.{All, Not}
 use Rattle.lines.specs.Words.{firstWord, afterWord}
 use Rattle.lines.specs.Values.{nameGood, nameBytes, argumentIn}
-use Rattle.lines.specs.Grammar.{commandCount, commandOf, isCommand, kindsOf}
+use Rattle.lines.specs.Grammar.{firstCall, commandCount, commandOf, isCommand, kindsOf}
 
 -- ---- the arguments of a command, or why there are none
 -- the command's number, and nine arguments at most
@@ -64,12 +64,12 @@ pub data Meaning : Type 0 where
 unfoldable pub bits : ℕ → ℕ → ℕ → ℕ → ℕ
 bits a b c d = cond (isFlag a && isFlag b && isFlag c && isFlag d) (a + 2 * b + 4 * c + 8 * d) 16
 
--- the words of call k, of which the first eight count; a thread's flags, its last four arguments, go together
+-- the words of the call that command k is, of which the first eight count; a thread's flags, its last four arguments, go together
 unfoldable pub flagsTogether : ℕ → List ℕ → List ℕ
 flagsTogether k w = cond (isCommand "thread" k) (set w 6 (bits (getD w 6 0) (getD w 7 0) (getD w 8 0) (getD w 9 0))) w
 
 unfoldable pub wordsOf : ℕ → List ℕ → List ℕ
-wordsOf k w = set (flagsTogether k w) 0 k
+wordsOf k w = set (flagsTogether k w) 0 (k - firstCall)
 
 -- words that are no call are answered as a choice that is none
 unfoldable pub calledBy : Option Call → Meaning

@@ -6,21 +6,25 @@ use crate::word;
 
 pub const COMMANDS: usize = 19;
 
-// The commands that are more than a call's words, by their numbers.
-pub const SPAWN: usize = 2;
+// What is no call.
+pub const LIST: usize = 0;
 
-pub const THREAD: usize = 5;
+pub const SHOW: usize = 1;
 
-pub const LIST: usize = 16;
+pub const FRESH: usize = 2;
 
-pub const SHOW: usize = 17;
+// Call 0.
+pub const FIRST_CALL: usize = 3;
 
-pub const FRESH: usize = 18;
+// The calls that are more than their words.
+pub const SPAWN: usize = FIRST_CALL + 2;
+
+pub const THREAD: usize = FIRST_CALL + 5;
 
 pub const NO_KIND: u8 = b'.';
 
 const NAMES: [u8; 122] =
-    *b" boot start spawn system-return fork thread dispatch yield sleep wake kill wait join thread-exit exit grow list show fresh";
+    *b" list show fresh boot start spawn system-return fork thread dispatch yield sleep wake kill wait join thread-exit exit grow";
 
 // The number of the command with this name; COMMANDS: there is none.
 pub fn find(w: &[u8]) -> usize
@@ -43,6 +47,9 @@ pub fn find(w: &[u8]) -> usize
 
 // The letters of the arguments, and dots behind the last.
 const KINDS: [[u8; 10]; COMMANDS] = [
+    *b"o.........", // list
+    *b"..........", // show
+    *b"..........", // fresh
     *b"..........", // boot
     *b"..........", // start
     *b"sn........", // spawn
@@ -59,9 +66,6 @@ const KINDS: [[u8; 10]; COMMANDS] = [
     *b"nn........", // thread-exit
     *b"nn........", // exit
     *b"ncy.......", // grow
-    *b"o.........", // list
-    *b"..........", // show
-    *b"..........", // fresh
 ];
 
 // The kind of argument i of command k; NO_KIND: it has no such argument.

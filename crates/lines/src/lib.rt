@@ -3,6 +3,7 @@ ghost use mathlib.Core.Path.{_≡_};
 ghost use Prim.Native.Nat.{_≤_};
 ghost use lib.ListN.{length, drop};
 ghost use Rattle.lines.specs.Meaning.{wordCount, means, commandMeans, wordsOf, bits, flagsTogether, saidBy, meaningOf, NameThere};
+ghost use Rattle.lines.specs.Grammar.{firstCall};
 ghost use Rattle.codes.specs.Codes.{callIn};
 use arguments::Args;
 use codes::Read;
@@ -67,11 +68,11 @@ fn flags_together(k: usize, w: &mut [u64])
 }
 
 fn call(k: usize, w: &mut [u64]) -> Said
-    requires { ⌜ wordCount ≤ length (now w) ⌝ }
+    requires { ⌜ (firstCall ≤ k) × (wordCount ≤ length (now w)) ⌝ }
     ensures { λ r. ⌜ r ≡ saidBy (callIn (wordsOf k (now (w .entry)))) ⌝ }
 {
     flags_together(k, w);
-    w[0] = k as u64;
+    w[0] = (k - grammar::FIRST_CALL) as u64;
     match codes::first(w) {
         Read::No => Said::Misread(Why::NotAChoice),
         Read::Is(c) => Said::Call(c),

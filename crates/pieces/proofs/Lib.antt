@@ -1,1 +1,3 @@
+mod DigitLaws
+mod NameLaws
 mod PieceLaws

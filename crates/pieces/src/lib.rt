@@ -6,8 +6,11 @@ ghost use lib.ListN.{length};
 ghost use Rattle.rules.specs.Listing.{digits};
 ghost use Rattle.buffers.specs.Text.{Wrote};
 ghost use Rattle.pieces.specs.Pieces.{numberTop, signedDigits, flagText, placeText, hexDigit, hexText};
-use labels::digits;
 use rules::Parent;
+
+pub mod digits; // a number in decimal
+pub mod state; // a state's name
+pub mod name; // a slot's name
 
 fn write_number(out: &mut [u8], at: usize, n: u64) -> usize
     requires { ⌜ at + numberTop ≤ length (now out) ⌝ }

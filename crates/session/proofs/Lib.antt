@@ -1,1 +1,2 @@
+mod TalkLaws
 mod StandLaws

@@ -7,13 +7,13 @@ use lib.ListN.{length, take, drop, length-drop}
 use lib.Seq.{length-take-le, take-all, take-add}
 use borrow.Author.Tests.{le-leb, lt-leb}
 use Rattle.desk.specs.Desk.{deskTop}
-use Rattle.talk.specs.declared.Place.{Place}
-use Rattle.talk.specs.declared.Taken.{Taken}
-use Rattle.talk.specs.Talk.{Seat, hears}
-use Rattle.talk.specs.Places.{seatOf, Ready, HeardPart}
-use Rattle.talk.specs.WholeLines.{in-pieces}
-use Rattle.talk.specs.Rounds.{written, hears-written}
-use Rattle.talk.specs.Progress.{goes-on}
+use Rattle.session.specs.declared.talk.Place.{Place}
+use Rattle.session.specs.declared.talk.Taken.{Taken}
+use Rattle.session.specs.Talk.{Seat, hears}
+use Rattle.session.specs.Places.{seatOf, Ready, HeardPart}
+use Rattle.session.specs.WholeLines.{in-pieces}
+use Rattle.session.specs.Rounds.{written, hears-written}
+use Rattle.session.specs.Progress.{goes-on}
 use Rattle.session.specs.declared.Turn.{Turn}
 use Rattle.session.specs.declared.Turn.the-variants.{Goes, Ends}
 use Rattle.session.specs.Turns.{placeOf, afterRoom, Heard, HeardSome}

@@ -5,10 +5,10 @@ use mathlib.Core.Bool.{cond}
 use mathlib.Core.List.{List}
 use lib.Dec.{leb}
 use Rattle.desk.specs.Desk.{deskTop}
-use Rattle.talk.specs.declared.Place.{Place}
-use Rattle.talk.specs.Talk.{Seat, hears}
-use Rattle.talk.specs.Places.{seatOf, Ready}
-use Rattle.talk.specs.Rounds.{written}
+use Rattle.session.specs.declared.talk.Place.{Place}
+use Rattle.session.specs.Talk.{Seat, hears}
+use Rattle.session.specs.Places.{seatOf, Ready}
+use Rattle.session.specs.Rounds.{written}
 use Rattle.session.specs.declared.Turn.{Turn}
 use Rattle.session.specs.declared.Turn.the-variants.{Goes, Ends}
 

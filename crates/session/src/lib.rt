@@ -3,10 +3,15 @@ ghost use mathlib.Core.Path.{_≡_};
 ghost use Prim.Native.Nat.{_+_, _≤_};
 ghost use lib.ListN.{length};
 ghost use Rattle.desk.specs.Desk.{deskTop};
-ghost use Rattle.talk.specs.Places.{seatOf, Ready};
+ghost use Rattle.session.specs.Places.{seatOf, Ready};
 ghost use Rattle.session.specs.Turns.{placeOf, afterRoom, Heard, HeardSome};
 use talk::Place;
 use words::Table;
+
+pub mod talk; // but for reading and writing: the input cut into lines, and answered
+
+// Room for what waits to be written, and for one more answer.
+const ROOM: usize = 2 * desk::TOP;
 
 enum Turn {
     Goes(Place),
@@ -115,7 +120,7 @@ pub fn run() {
     let mut t = new.words;
     let mut line = [0u8; talk::LINE];
     let mut name = [0u8; talk::LINE];
-    let mut out = io::large_buffer();
+    let mut out = [0u8; ROOM];
     let start = talk::start();
     let p = hear(&mut t, &mut line, &mut name, &mut out, start);
     let e = talk::close(&mut t, &line, &mut name, &mut out, p);

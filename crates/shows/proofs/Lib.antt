@@ -1,2 +1,3 @@
 pub mod ShowLaws
 mod SlotsLaws
+mod SaidLaws

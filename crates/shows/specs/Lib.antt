@@ -1,1 +1,3 @@
 pub mod Shows
+pub mod Said
+pub mod Rows

@@ -6,6 +6,9 @@ use Rattle.lines.proofs.call.Tie as tie
 flags-together-requires : tie.Need-flags-together-requires
 flags-together-requires c κs = search needs
 
+sub-w : tie.Need-sub-w
+sub-w c = search needs
+
 slice-write-w : tie.Need-slice-write-w
 slice-write-w c = search needs
 
@@ -42,6 +45,7 @@ call-spec =
     tie.close
     (tie.spec
     flags-together-requires
+    sub-w
     slice-write-w
     first-requires
     enum-told

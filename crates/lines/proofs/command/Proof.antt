@@ -31,7 +31,10 @@ slice-read-t20 : tie.Need-slice-read-t20
 slice-read-t20 c = search needs
 
 call-requires : tie.Need-call-requires
-call-requires c κs = search needs
+call-requires c κs =
+    let entry = c .before .before .before .before .before in
+    let match = c .before .match in
+    (omega (arith, match .rest), entry .pre .1)
 
 same-length : tie.Need-same-length
 same-length c = search needs

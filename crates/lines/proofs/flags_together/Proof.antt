@@ -1,5 +1,6 @@
+use Prim.Native.Nat.{_+_}
 use Rattle.lines.specs.Meaning.{flagsTogether}
-use Rattle.lines.specs.Grammar.{isCommand}
+use Rattle.lines.specs.Grammar.{firstCall, isCommand}
 use Rattle.lines.proofs.GrammarLaws.{thread-is}
 use borrow.Author.Tests.{eq-eqb, ne-eqb}
 use borrow.Author.Needs.{needs}
@@ -32,11 +33,11 @@ unfolding flagsTogether isCommand
 returns c =
     let entry = c .before .before .before .before .before .before .before in
     let if1 = c .before .before .before .before .before .if1 in
-    rw (thread-is, eq-eqb (entry .args .k) 5 (if1 .taken), c .bits .ensures)
+    rw (thread-is, eq-eqb (entry .args .k) (firstCall + 5) (if1 .taken), c .bits .ensures)
 
 returns-2 : tie.Need-returns-2
 unfolding flagsTogether isCommand
-returns-2 c = rw (thread-is, ne-eqb (c .before .before .args .k) 5 (c .if1 .left))
+returns-2 c = rw (thread-is, ne-eqb (c .before .before .args .k) (firstCall + 5) (c .if1 .left))
 
 pub flags-together-spec : {M : Type 1} → statement M
 flags-together-spec =

@@ -1,5 +1,5 @@
 use Rattle.session.proofs.StandLaws.{Listening, opens, goes, some-heard, goes-by, ends-by}
-use Rattle.talk.specs.Places.{seatOf}
+use Rattle.session.specs.Places.{seatOf}
 use borrow.Author.Needs.{needs}
 use native.Mathlib.Omega.{arith}
 use mathlib.Core.Path.{refl, _∙_}

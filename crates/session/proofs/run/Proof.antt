@@ -9,9 +9,6 @@ use Rattle.session.proofs.run.Tie as tie
 new-requires : tie.Need-new-requires
 new-requires c κs = search needs
 
-large-buffer-requires : tie.Need-large-buffer-requires
-large-buffer-requires c κs = search needs
-
 start-requires : tie.Need-start-requires
 start-requires c κs = search needs
 
@@ -28,13 +25,8 @@ hear-requires : tie.Need-hear-requires
 unfolding slotCount hartCount nameSize
 hear-requires c κs =
     let start = c .before .before .before .before .start in
-    rw (start .ensures) record {
-      sound = c .before .before .before .before .before .before .before .new .ensures .1;
-      forLine = refl;
-      forName = omega arith;
-      len = omega arith;
-      forAnswer = omega (arith, c .before .before .before .before .before .large-buffer .ensures);
-    }
+    let new = c .before .before .before .before .before .before .new in
+    rw (start .ensures) record { sound = new .ensures .1; forLine = refl; forName = omega arith; len = omega arith; forAnswer = omega arith }
 
 slice-aggregate-close : tie.Need-slice-aggregate-close
 slice-aggregate-close c = search needs
@@ -67,7 +59,6 @@ run-spec =
     tie.close
     (tie.spec
     new-requires
-    large-buffer-requires
     start-requires
     slice-aggregate-hear
     slice-aggregate-hear-2

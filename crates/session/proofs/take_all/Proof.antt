@@ -1,5 +1,5 @@
 use Rattle.session.proofs.StandLaws.{Midway, begun, room-made, nearer, next, all-heard}
-use Rattle.talk.specs.Places.{seatOf}
+use Rattle.session.specs.Places.{seatOf}
 use native.Mathlib.Omega.{arith}
 use mathlib.Core.Path.{refl}
 use lib.ListN.{length}

@@ -10,7 +10,7 @@ use Rattle.lines.proofs.grammar.find.Statement.{statement}
 use Rattle.lines.proofs.grammar.find.Tie as tie
 
 abbrev names : List ℕ
-names = bytes " boot start spawn system-return fork thread dispatch yield sleep wake kill wait join thread-exit exit grow list show fresh"
+names = bytes " list show fresh boot start spawn system-return fork thread dispatch yield sleep wake kill wait join thread-exit exit grow"
 
 abbrev Inv-loop : tie.InvT-loop
 Inv-loop w at₀ k₀ t7 t8 at k = Walk names w at k

@@ -1,2 +1,0 @@
-mod DigitLaws
-mod NameLaws

@@ -1,5 +1,0 @@
-pub mod Talk
-pub mod Places
-pub mod WholeLines
-pub mod Rounds
-pub mod Progress
