@@ -87,7 +87,8 @@ returns-2 : tie.Need-returns-2
 returns-2 c =
     let entry = c .before .before .before .before .before .before .before .before .before .before .before .before .before .before .before .before in
     let read = c .before .before .before .before .before .before .before .before .before .before .before .read in
-    call-made (tableOf (entry .args .t .now)) (entry .args .number) (means (entry .args .line .now)) (entry .args .out .now) (entry .args .at) (said-is (read .last .1 .0) (read .result) (Call _) (c .before .before .before .before .before .before .before .c .given .1) (read .ensures)) (c .before .before .perform .ensures)
+    let c-2 = c .before .before .before .before .before .before .before .c in
+    call-made (tableOf (entry .args .t .now)) (entry .args .number) (means (entry .args .line .now)) (entry .args .out .now) (entry .args .at) (said-is (read .last .1 .0) (read .result) (Call _) (c-2 .given .1) (read .ensures)) (c .before .before .perform .ensures)
 
 same-length-4 : tie.Need-same-length-4
 same-length-4 c = search needs

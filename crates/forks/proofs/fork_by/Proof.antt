@@ -33,12 +33,17 @@ enum-known-child : tie.Need-enum-known-child
 enum-known-child c = search needs
 
 fork-in-requires : tie.Need-fork-in-requires
-fork-in-requires c κs = (
-  c .before .before .before .before .before .before .before .before .before .before .before .before .pre .0,
-  subst InGroups (c .before .before .before .before .before .before .before .before .group .given .1) (c .before .before .before .before .before .before .before .before .before .before .kin-at .ensures .1),
-  (subst InSlots (c .before .before .before .child .given .1) (c .before .before .before .before .before .alloc-proc .ensures .2)),
-  taken-room (tableOf (c .before .before .before .before .before .before .before .before .before .before .before .before .args .t .now)) (c .before .before .before .before .before .before .before .before .before .before .before .before .pre .1) (subst InSlots (c .before .before .before .child .given .1) (c .before .before .before .before .before .alloc-proc .ensures .2)) (sym (c .before .before .before .child .given .1) ∙ c .before .before .before .before .before .alloc-proc .ensures .0) (c .before .before .before .before .before .alloc-proc .ensures .1),
-)
+fork-in-requires c κs =
+    let entry = c .before .before .before .before .before .before .before .before .before .before .before .before in
+    let kin-at = c .before .before .before .before .before .before .before .before .before .before .kin-at in
+    let group = c .before .before .before .before .before .before .before .before .group in
+    let alloc-proc = c .before .before .before .before .before .alloc-proc in
+    let child = c .before .before .before .child in (
+      entry .pre .0,
+      subst InGroups (group .given .1) (kin-at .ensures .1),
+      (subst InSlots (child .given .1) (alloc-proc .ensures .2)),
+      taken-room (tableOf (entry .args .t .now)) (entry .pre .1) (subst InSlots (child .given .1) (alloc-proc .ensures .2)) (sym (child .given .1) ∙ alloc-proc .ensures .0) (alloc-proc .ensures .1),
+    )
 
 returns-2 : tie.Need-returns-2
 returns-2 c =
@@ -46,7 +51,8 @@ returns-2 c =
     let kin-at = c .before .before .before .before .before .before .before .before .before .before .before .kin-at in
     let group = c .before .before .before .before .before .before .before .before .before .group in
     let alloc-proc = c .before .before .before .before .before .before .alloc-proc in
-    fork-made (tableOf (entry .args .t .now)) (entry .args .memory) (entry .args .caller) (sym (group .given .1) ∙ ap (λ (k : Kin). k .group) (kin-at .ensures .0)) (sym (c .before .before .before .before .child .given .1) ∙ alloc-proc .ensures .0) (alloc-proc .ensures .1) (c .before .before .if1 .taken) (c .fork-in .ensures)
+    let child = c .before .before .before .before .child in
+    fork-made (tableOf (entry .args .t .now)) (entry .args .memory) (entry .args .caller) (sym (group .given .1) ∙ ap (λ (k : Kin). k .group) (kin-at .ensures .0)) (sym (child .given .1) ∙ alloc-proc .ensures .0) (alloc-proc .ensures .1) (c .before .before .if1 .taken) (c .fork-in .ensures)
 
 returns-3 : tie.Need-returns-3
 returns-3 c =

@@ -60,14 +60,22 @@ enum-known-i : tie.Need-enum-known-i
 enum-known-i c = search needs
 
 thread-in-requires : tie.Need-thread-in-requires
-thread-in-requires c κs = (
-  c .before .before .before .before .before .before .before .before .before .before .before .before .before .before .before .before .before .pre .0,
-  subst InGroups (c .before .before .before .before .before .before .before .before .before .before .before .before .before .group .given .1) (c .before .before .before .before .before .before .before .before .before .before .before .before .before .before .before .kin-at .ensures .1),
-  (subst InSlots (c .before .before .i .given .1) (c .before .before .before .before .alloc-proc .ensures .2)),
-  taken-room (tableOf (c .before .before .before .before .before .before .before .before .before .before .before .before .before .before .before .before .before .args .t .now)) (c .before .before .before .before .before .before .before .before .before .before .before .before .before .before .before .before .before .pre .1) (subst InSlots (c .before .before .i .given .1) (c .before .before .before .before .alloc-proc .ensures .2)) (sym (c .before .before .i .given .1) ∙ c .before .before .before .before .alloc-proc .ensures .0) (c .before .before .before .before .alloc-proc .ensures .1),
-  taken-count (tableOf (c .before .before .before .before .before .before .before .before .before .before .before .before .before .before .before .before .before .args .t .now)) (c .before .before .before .before .before .before .before .before .before .before .before .before .before .before .before .before .before .pre .1) (subst InSlots (c .before .before .i .given .1) (c .before .before .before .before .alloc-proc .ensures .2)) (sym (c .before .before .i .given .1) ∙ c .before .before .before .before .alloc-proc .ensures .0) (c .before .before .before .before .alloc-proc .ensures .1) _,
-  ask-fits (c .before .before .before .before .before .before .before .before .before .before .before .before .before .before .before .before .before .args .ask) (c .before .before .before .before .before .before .before .before .before .before .group-at .result .size) (sym (c .before .before .before .before .before .before .before .before .before .wrong-ask .ensures) ∙ c .before .before .before .before .before .before .before .before .if1 .left),
-)
+thread-in-requires c κs =
+    let entry = c .before .before .before .before .before .before .before .before .before .before .before .before .before .before .before .before .before in
+    let kin-at = c .before .before .before .before .before .before .before .before .before .before .before .before .before .before .before .kin-at in
+    let group = c .before .before .before .before .before .before .before .before .before .before .before .before .before .group in
+    let group-at = c .before .before .before .before .before .before .before .before .before .before .group-at in
+    let wrong-ask = c .before .before .before .before .before .before .before .before .before .wrong-ask in
+    let if1 = c .before .before .before .before .before .before .before .before .if1 in
+    let alloc-proc = c .before .before .before .before .alloc-proc in
+    let i = c .before .before .i in (
+      entry .pre .0,
+      subst InGroups (group .given .1) (kin-at .ensures .1),
+      (subst InSlots (i .given .1) (alloc-proc .ensures .2)),
+      taken-room (tableOf (entry .args .t .now)) (entry .pre .1) (subst InSlots (i .given .1) (alloc-proc .ensures .2)) (sym (i .given .1) ∙ alloc-proc .ensures .0) (alloc-proc .ensures .1),
+      taken-count (tableOf (entry .args .t .now)) (entry .pre .1) (subst InSlots (i .given .1) (alloc-proc .ensures .2)) (sym (i .given .1) ∙ alloc-proc .ensures .0) (alloc-proc .ensures .1) _,
+      ask-fits (entry .args .ask) (group-at .result .size) (sym (wrong-ask .ensures) ∙ if1 .left),
+    )
 
 returns-4 : tie.Need-returns-4
 returns-4 c =
@@ -93,7 +101,8 @@ returns-5 c =
     let unmapped = c .before .before .before .before .before .before .before .before .unmapped in
     let if2 = c .before .before .before .before .before .before .before .if2 in
     let alloc-proc = c .before .before .before .before .before .alloc-proc in
-    thread-made (tableOf (entry .args .t .now)) (entry .args .ask) (entry .args .mapped) (entry .args .caller) (sym (group .given .1) ∙ ap (λ (k : Kin). k .group) (kin-at .ensures .0)) (group-at .ensures) (wrong-ask .ensures) (if1 .left) (sym (unmapped .ensures) ∙ if2 .left) (sym (c .before .before .before .i .given .1) ∙ alloc-proc .ensures .0) (alloc-proc .ensures .1) (c .thread-in .ensures)
+    let i = c .before .before .before .i in
+    thread-made (tableOf (entry .args .t .now)) (entry .args .ask) (entry .args .mapped) (entry .args .caller) (sym (group .given .1) ∙ ap (λ (k : Kin). k .group) (kin-at .ensures .0)) (group-at .ensures) (wrong-ask .ensures) (if1 .left) (sym (unmapped .ensures) ∙ if2 .left) (sym (i .given .1) ∙ alloc-proc .ensures .0) (alloc-proc .ensures .1) (c .thread-in .ensures)
 
 pub thread-by-spec : {M : Type 1} → statement M
 thread-by-spec =

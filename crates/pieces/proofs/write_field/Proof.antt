@@ -13,7 +13,9 @@ same-length : tie.Need-same-length
 same-length c = search needs
 
 returns : tie.Need-returns
-returns c = (wrote-more (c .before .before .before .before .before .before .write .ensures) (c .before .before .write-number .ensures .0), search needs)
+returns c =
+    let write = c .before .before .before .before .before .before .write in
+    (wrote-more (write .ensures) (c .before .before .write-number .ensures .0), search needs)
 
 pub write-field-spec : {M : Type 1} → statement M
 write-field-spec = tie.close (tie.spec write-requires write-number-requires same-length returns)

@@ -19,7 +19,10 @@ same-length c = search needs
 
 returns : tie.Need-returns
 unfolding flagText bytes
-returns c = (rw (c .before .before .before .before .before .if1 .taken) (wrote-more (c .before .before .before .before .before .before .before .before .write .ensures) (c .before .before .write2 .ensures)), search needs)
+returns c =
+    let write = c .before .before .before .before .before .before .before .before .write in
+    let if1 = c .before .before .before .before .before .if1 in
+    (rw (if1 .taken) (wrote-more (write .ensures) (c .before .before .write2 .ensures)), search needs)
 
 slice-aggregate-write-2 : tie.Need-slice-aggregate-write-2
 slice-aggregate-write-2 c = search needs
@@ -32,7 +35,10 @@ same-length-2 c = search needs
 
 returns-2 : tie.Need-returns-2
 unfolding flagText bytes
-returns-2 c = (rw (c .before .before .before .before .before .if1 .left) (wrote-more (c .before .before .before .before .before .before .before .before .write .ensures) (c .before .before .write3 .ensures)), search needs)
+returns-2 c =
+    let write = c .before .before .before .before .before .before .before .before .write in
+    let if1 = c .before .before .before .before .before .if1 in
+    (rw (if1 .left) (wrote-more (write .ensures) (c .before .before .write3 .ensures)), search needs)
 
 pub write-flag-spec : {M : Type 1} → statement M
 write-flag-spec =

@@ -30,14 +30,21 @@ same-length c = search needs
 
 returns : tie.Need-returns
 unfolding placeText bytes
-returns c = (wrote-more (c .before .before .before .before .before .before .before .before .before .write .ensures) (wrote-as placeText Nobody {x = c .before .before .before .before .before .before .before .before .before .before .before .before .before .args .p} (cc) (c .before .before .write2 .ensures)), search needs)
+returns c =
+    let entry = c .before .before .before .before .before .before .before .before .before .before .before .before .before in
+    let write = c .before .before .before .before .before .before .before .before .before .write in
+    (wrote-more (write .ensures) (wrote-as placeText Nobody {x = entry .args .p} (cc) (c .before .before .write2 .ensures)), search needs)
 
 same-length-2 : tie.Need-same-length-2
 same-length-2 c = search needs
 
 returns-2 : tie.Need-returns-2
 unfolding placeText
-returns-2 c = (wrote-more (c .before .before .before .before .before .before .before .before .before .write .ensures) (wrote-as placeText _ {x = c .before .before .before .before .before .before .before .before .before .before .before .before .before .args .p} (c .before .before .before .before .before .p .given .1) (c .before .before .write-number .ensures .0)), search needs)
+returns-2 c =
+    let entry = c .before .before .before .before .before .before .before .before .before .before .before .before .before in
+    let write = c .before .before .before .before .before .before .before .before .before .write in
+    let p = c .before .before .before .before .before .p in
+    (wrote-more (write .ensures) (wrote-as placeText _ {x = entry .args .p} (p .given .1) (c .before .before .write-number .ensures .0)), search needs)
 
 pub write-place-spec : {M : Type 1} → statement M
 write-place-spec =

@@ -35,7 +35,10 @@ same-length c = search needs
 
 returns : tie.Need-returns
 unfolding bytes
-returns c = (rw (signed-low (c .before .before .before .before .before .before .before .args .x) (c .before .before .before .before .before .before .before .fits .x) (c .before .before .before .before .before .if1 .taken)) at (c .before .before .write-field .ensures .0), search needs)
+returns c =
+    let entry = c .before .before .before .before .before .before .before in
+    let if1 = c .before .before .before .before .before .if1 in
+    (rw (signed-low (entry .args .x) (entry .fits .x) (if1 .taken)) at (c .before .before .write-field .ensures .0), search needs)
 
 cast-write-number : tie.Need-cast-write-number
 cast-write-number c =
@@ -50,7 +53,10 @@ same-length-2 : tie.Need-same-length-2
 same-length-2 c = search needs
 
 returns-2 : tie.Need-returns-2
-returns-2 c = (rw (signed-high (c .before .before .before .before .before .before .args .x) (c .before .before .before .before .before .before .fits .x) (c .before .before .before .before .if1 .left)) at (c .before .before .write-number .ensures .0), search needs)
+returns-2 c =
+    let entry = c .before .before .before .before .before .before in
+    let if1 = c .before .before .before .before .if1 in
+    (rw (signed-high (entry .args .x) (entry .fits .x) (if1 .left)) at (c .before .before .write-number .ensures .0), search needs)
 
 pub write-signed-spec : {M : Type 1} → statement M
 write-signed-spec =

@@ -75,7 +75,8 @@ add-at c =
     let entry = c .before .before .before .before .before .before .before .before .before .before .before .before .before .before .before .before .before in
     let loop = c .before .before .before .before .before .before .before .before .before .before .before .before .loop in
     let first = c .before .before .before .before .before .before .before .before .before .first in
-    omega (arith, call-in _ _ _ _ _ (loop .inv) _ (first-call (entry .args .calls .now) (loop .at) (first .result) (first .ensures) (c .before .before .before .before .before .before .before .c .given .1)))
+    let c-2 = c .before .before .before .before .before .before .before .c in
+    omega (arith, call-in _ _ _ _ _ (loop .inv) _ (first-call (entry .args .calls .now) (loop .at) (first .result) (first .ensures) (c-2 .given .1)))
 
 add-to : tie.Need-add-to Inv-loop μ-loop
 add-to c =
@@ -95,9 +96,10 @@ loop-again c =
     let loop = c .before .before .before .before .before .before .before .before .before .before .before .before .loop in
     let loop-test = c .before .before .before .before .before .before .before .before .before .before .before .loop-test in
     let first = c .before .before .before .before .before .before .before .before .before .first in
+    let c-2 = c .before .before .before .before .before .before .before .c in
     let step = c .before .before .before .before .step in
     let write = c .before .before .write in
-    next _ _ _ _ _ (loop .inv) _ (first-call (entry .args .calls .now) (loop .at) (first .result) (first .ensures) (c .before .before .before .before .before .before .before .c .given .1)) (loop-test .taken) (most-fits (entry .args .out .now) (least .ensures .1)) (step .ensures) (write .ensures) (write .kept .0)
+    next _ _ _ _ _ (loop .inv) _ (first-call (entry .args .calls .now) (loop .at) (first .result) (first .ensures) (c-2 .given .1)) (loop-test .taken) (most-fits (entry .args .out .now) (least .ensures .1)) (step .ensures) (write .ensures) (write .kept .0)
 
 same-length-2 : tie.Need-same-length-2 Inv-loop μ-loop
 same-length-2 c = c .before .loop .inv .long

@@ -33,8 +33,9 @@ returns : tie.Need-returns Inv-loop μ-loop
 unfolding newGroup slotCount groupCount
 returns c =
     let entry = c .before .before .before .before .before in
+    let loop = c .before .before .before .before .loop in
     let w = entry .args .t .now in (
-      ap orZero (sym (c .before .before .before .before .loop .inv .1 ∙ scan-here emptyGroup (tableOf w .books .groups) noGroup (c .before .before .before .before .loop .g) (omega (arith, groups-count w))
+      ap orZero (sym (loop .inv .1 ∙ scan-here emptyGroup (tableOf w .books .groups) noGroup (loop .g) (omega (arith, groups-count w))
           (eq-eqb _ _ (ap (λ (x : Group). x .count) (sym (c .before .before .group-at .ensures)) ∙ c .if1 .taken)))),
       omega arith,
     )
@@ -51,9 +52,10 @@ loop-again : tie.Need-loop-again Inv-loop μ-loop
 unfolding slotCount groupCount
 loop-again c =
     let entry = c .before .before .before .before .before in
+    let loop = c .before .before .before .before .loop in
     let w = entry .args .t .now in (
       omega arith,
-      c .before .before .before .before .loop .inv .1 ∙ scan-more emptyGroup (tableOf w .books .groups) noGroup (c .before .before .before .before .loop .g) (omega (arith, groups-count w))
+      loop .inv .1 ∙ scan-more emptyGroup (tableOf w .books .groups) noGroup (loop .g) (omega (arith, groups-count w))
           (ne-eqb _ _ (λ e. c .if1 .left (ap (λ (x : Group). x .count) (c .before .before .group-at .ensures) ∙ e))),
     )
 

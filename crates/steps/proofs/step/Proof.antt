@@ -113,7 +113,9 @@ returns-2 c =
     by-call _ Start {c = entry .args .c} (cc) (c .start-init-process .ensures)
 
 returns-3 : tie.Need-returns-3
-returns-3 c = by-call _ _ (c .before .before .before .c .given .1) (c .spawn .ensures)
+returns-3 c =
+    let c-2 = c .before .before .before .c in
+    by-call _ _ (c-2 .given .1) (c .spawn .ensures)
 
 returns-4 : tie.Need-returns-4
 returns-4 c =

@@ -76,11 +76,15 @@ loop-less c = omega arith
 
 loop-again : tie.Need-loop-again Inv-loop μ-loop
 unfolding slotCount
-loop-again c = (
-  omega arith,
-  sweep-four _ _ (4 * c .before .before .before .before .before .before .before .before .before .loop .b) _ (omega arith) (c .before .before .before .before .before .before .hand-over .ensures) (c .before .before .before .before .hand-over2 .ensures) (c .before .before .hand-over3 .ensures) (c .hand-over4 .ensures) (c .before .before .before .before .before .before .before .before .before .loop .inv .1),
-  one-queued (handOver-queued _ _) _ _ (c .hand-over4 .ensures) (one-queued (handOver-queued _ _) _ _ (c .before .before .hand-over3 .ensures) (one-queued (handOver-queued _ _) _ _ (c .before .before .before .before .hand-over2 .ensures) (one-queued (handOver-queued _ _) _ _ (c .before .before .before .before .before .before .hand-over .ensures) (c .before .before .before .before .before .before .before .before .before .loop .inv .2)))),
-)
+loop-again c =
+    let loop = c .before .before .before .before .before .before .before .before .before .loop in
+    let hand-over = c .before .before .before .before .before .before .hand-over in
+    let hand-over2 = c .before .before .before .before .hand-over2 in
+    let hand-over3 = c .before .before .hand-over3 in (
+      omega arith,
+      sweep-four _ _ (4 * loop .b) _ (omega arith) (hand-over .ensures) (hand-over2 .ensures) (hand-over3 .ensures) (c .hand-over4 .ensures) (loop .inv .1),
+      one-queued (handOver-queued _ _) _ _ (c .hand-over4 .ensures) (one-queued (handOver-queued _ _) _ _ (hand-over3 .ensures) (one-queued (handOver-queued _ _) _ _ (hand-over2 .ensures) (one-queued (handOver-queued _ _) _ _ (hand-over .ensures) (loop .inv .2)))),
+    )
 
 returns : tie.Need-returns Inv-loop μ-loop
 unfolding slotCount

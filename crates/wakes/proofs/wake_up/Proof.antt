@@ -68,11 +68,15 @@ loop-less c = omega arith
 
 loop-again : tie.Need-loop-again Inv-loop μ-loop
 unfolding slotCount
-loop-again c = (
-  omega arith,
-  sweep-four _ _ (4 * c .before .before .before .before .before .before .before .before .before .loop .b) _ (omega arith) (c .before .before .before .before .before .before .wake-one .ensures) (c .before .before .before .before .wake-one2 .ensures) (c .before .before .wake-one3 .ensures) (c .wake-one4 .ensures) (c .before .before .before .before .before .before .before .before .before .loop .inv .1),
-  one-queued (wakeOne-queued _) _ _ (c .wake-one4 .ensures) (one-queued (wakeOne-queued _) _ _ (c .before .before .wake-one3 .ensures) (one-queued (wakeOne-queued _) _ _ (c .before .before .before .before .wake-one2 .ensures) (one-queued (wakeOne-queued _) _ _ (c .before .before .before .before .before .before .wake-one .ensures) (c .before .before .before .before .before .before .before .before .before .loop .inv .2)))),
-)
+loop-again c =
+    let loop = c .before .before .before .before .before .before .before .before .before .loop in
+    let wake-one = c .before .before .before .before .before .before .wake-one in
+    let wake-one2 = c .before .before .before .before .wake-one2 in
+    let wake-one3 = c .before .before .wake-one3 in (
+      omega arith,
+      sweep-four _ _ (4 * loop .b) _ (omega arith) (wake-one .ensures) (wake-one2 .ensures) (wake-one3 .ensures) (c .wake-one4 .ensures) (loop .inv .1),
+      one-queued (wakeOne-queued _) _ _ (c .wake-one4 .ensures) (one-queued (wakeOne-queued _) _ _ (wake-one3 .ensures) (one-queued (wakeOne-queued _) _ _ (wake-one2 .ensures) (one-queued (wakeOne-queued _) _ _ (wake-one .ensures) (loop .inv .2)))),
+    )
 
 returns : tie.Need-returns Inv-loop μ-loop
 unfolding slotCount

@@ -102,8 +102,9 @@ loop-again c =
     let entry = c .before .before .before .before .before .before .before .before .before .before .before .before in
     let loop = c .before .before .before .before .before .before .before .before .loop in
     let loop-test = c .before .before .before .before .before .before .before .loop-test in
+    let next-2 = c .before .before .before .before .before .before .next in
     let argument = c .before .before .before .before .argument in
-    next _ _ _ _ (loop .inv) (loop-test .taken) (c .before .before .before .before .before .before .next .ensures) (sym (c .before .before .v .given .1) ∙ argument .ensures) (entry .pre .1) (entry .pre .2) (c .kind2 .ensures)
+    next _ _ _ _ (loop .inv) (loop-test .taken) (next-2 .ensures) (sym (c .before .before .v .given .1) ∙ argument .ensures) (entry .pre .1) (entry .pre .2) (c .kind2 .ensures)
 
 next-requires-2 : tie.Need-next-requires-2 Inv-loop μ-loop
 next-requires-2 c κs = c .before .loop .inv .within

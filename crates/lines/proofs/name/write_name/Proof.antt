@@ -16,7 +16,9 @@ sub-unhex c =
     hex-long (entry .args .w .now) (sym (c .before .is-hex .ensures) ∙ c .if1 .taken)
 
 part-unhex-start : tie.Need-part-unhex-start
-part-unhex-start c = search (needs, hex-long (c .before .before .before .before .args .w .now) (sym (c .before .is-hex .ensures) ∙ c .if1 .taken))
+part-unhex-start c =
+    let entry = c .before .before .before .before in
+    search (needs, hex-long (entry .args .w .now) (sym (c .before .is-hex .ensures) ∙ c .if1 .taken))
 
 part-unhex-end : tie.Need-part-unhex-end
 part-unhex-end c = search needs

@@ -25,7 +25,9 @@ sub-all-below c =
     hex-long (entry .args .w .now) (sym (c .before .before .is-hex .ensures) ∙ not-false _ (c .before .if1 .left))
 
 part-all-below-start : tie.Need-part-all-below-start
-part-all-below-start c = search (needs, hex-long (c .before .before .before .before .args .w .now) (sym (c .before .before .is-hex .ensures) ∙ not-false _ (c .before .if1 .left)))
+part-all-below-start c =
+    let entry = c .before .before .before .before in
+    search (needs, hex-long (entry .args .w .now) (sym (c .before .before .is-hex .ensures) ∙ not-false _ (c .before .if1 .left)))
 
 part-all-below-end : tie.Need-part-all-below-end
 part-all-below-end c = search needs

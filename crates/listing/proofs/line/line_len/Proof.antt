@@ -49,6 +49,7 @@ unfolding lineTop nameSize
 returns-2 c =
     let a = c .before .before .before .before .before .before .before .before .before .args in
     let m = c .before .before .before .before .before .before .before .before .meta-at in
+    let match = c .before .before .before .before .before .before .before .match in
     let d = c .before .before .before .before .before .decimal in
     let w = c .before .before .before .before .start-at in
     let n = c .before .before .before .shown-name in
@@ -57,7 +58,7 @@ returns-2 c =
     let nl : length (n .result .bytes) ≡ 16 = search needs in
     let ds = sym (length-drop (d .result .from) (d .result .bytes)) ∙ ap length (d .ensures .0) in
     let ns = sym (length-take-le (n .result .len) (n .result .bytes) (omega (arith, n .ensures .1))) ∙ ap length (n .ensures .0) in
-    let u = used (m .result .state) (c .before .before .before .before .before .before .before .match .keys2) in (
+    let u = used (m .result .state) (match .keys2) in (
       rw (line-here (tableOf (a .t .now)) (a .s) (m .result) (m .ensures) (w .result) (w .ensures) u, line-length) (omega (arith, l .ensures .0)),
       omega (arith, l .ensures .1, n .ensures .1),
     )

@@ -43,14 +43,21 @@ same-length c = search needs
 
 returns : tie.Need-returns
 unfolding groupText bytes
-returns c = (wrote-as (groupText (tableOf (c .before .before .before .before .before .before .before .before .args .t .now) .books)) Alone {x = c .before .before .before .before .before .before .before .before .args .g} (cc) (c .before .before .write .ensures), search needs)
+returns c =
+    let entry = c .before .before .before .before .before .before .before .before in
+    (wrote-as (groupText (tableOf (entry .args .t .now) .books)) Alone {x = entry .args .g} (cc) (c .before .before .write .ensures), search needs)
 
 same-length-2 : tie.Need-same-length-2
 same-length-2 c = search needs
 
 returns-2 : tie.Need-returns-2
 unfolding groupText field bytes
-returns-2 c = (wrote-as (groupText (tableOf (c .before .before .before .before .before .before .before .before .before .before .before .before .before .before .before .args .t .now) .books)) _ {x = c .before .before .before .before .before .before .before .before .before .before .before .before .before .before .before .args .g} (c .before .before .before .before .before .before .before .before .before .before .before .before .g .given .1) (rw (c .before .before .before .before .before .before .before .before .before .before .group-at .ensures) at (wrote-more (c .before .before .before .before .before .before .before .write-field .ensures .0) (c .before .before .write-field2 .ensures .0))), search needs)
+returns-2 c =
+    let entry = c .before .before .before .before .before .before .before .before .before .before .before .before .before .before .before in
+    let g = c .before .before .before .before .before .before .before .before .before .before .before .before .g in
+    let group-at = c .before .before .before .before .before .before .before .before .before .before .group-at in
+    let write-field = c .before .before .before .before .before .before .before .write-field in
+    (wrote-as (groupText (tableOf (entry .args .t .now) .books)) _ {x = entry .args .g} (g .given .1) (rw (group-at .ensures) at (wrote-more (write-field .ensures .0) (c .before .before .write-field2 .ensures .0))), search needs)
 
 pub write-group-spec : {M : Type 1} → statement M
 write-group-spec =

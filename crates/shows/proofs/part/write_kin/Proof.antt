@@ -35,7 +35,12 @@ same-length c = search needs
 
 returns : tie.Need-returns
 unfolding kinText place flag bytes
-returns c = (rw (c .before .before .before .before .before .before .before .before .before .before .before .before .before .before .before .before .before .before .before .kin-at .ensures .0) at (wrote-more (wrote-more (wrote-more (c .before .before .before .before .before .before .before .before .before .before .before .before .before .before .before .before .write-place .ensures .0) (c .before .before .before .before .before .before .before .before .before .before .before .write-flag .ensures .0)) (c .before .before .before .before .before .before .write-flag2 .ensures .0)) (c .before .before .write-group .ensures .0)), search needs)
+returns c =
+    let kin-at = c .before .before .before .before .before .before .before .before .before .before .before .before .before .before .before .before .before .before .before .kin-at in
+    let write-place = c .before .before .before .before .before .before .before .before .before .before .before .before .before .before .before .before .write-place in
+    let write-flag = c .before .before .before .before .before .before .before .before .before .before .before .write-flag in
+    let write-flag2 = c .before .before .before .before .before .before .write-flag2 in
+    (rw (kin-at .ensures .0) at (wrote-more (wrote-more (wrote-more (write-place .ensures .0) (write-flag .ensures .0)) (write-flag2 .ensures .0)) (c .before .before .write-group .ensures .0)), search needs)
 
 pub write-kin-spec : {M : Type 1} → statement M
 write-kin-spec =

@@ -44,7 +44,13 @@ same-length c = search needs
 
 returns : tie.Need-returns
 unfolding metaText field flag bytes
-returns c = (wrote-more (wrote-more (wrote-more (wrote-more (wrote-more (c .before .before .before .before .before .before .before .before .before .before .before .before .before .before .before .before .before .before .before .before .before .before .before .before .before .before .before .write-state .ensures .0) (c .before .before .before .before .before .before .before .before .before .before .before .before .before .before .before .before .before .before .before .before .before .before .write-field .ensures .0)) (c .before .before .before .before .before .before .before .before .before .before .before .before .before .before .before .before .before .write-flag .ensures .0)) (c .before .before .before .before .before .before .before .before .before .before .before .before .write-field2 .ensures .0)) (c .before .before .before .before .before .before .before .write-field3 .ensures .0)) (c .before .before .write-flag2 .ensures .0), search needs)
+returns c =
+    let write-state = c .before .before .before .before .before .before .before .before .before .before .before .before .before .before .before .before .before .before .before .before .before .before .before .before .before .before .before .write-state in
+    let write-field = c .before .before .before .before .before .before .before .before .before .before .before .before .before .before .before .before .before .before .before .before .before .before .write-field in
+    let write-flag = c .before .before .before .before .before .before .before .before .before .before .before .before .before .before .before .before .before .write-flag in
+    let write-field2 = c .before .before .before .before .before .before .before .before .before .before .before .before .write-field2 in
+    let write-field3 = c .before .before .before .before .before .before .before .write-field3 in
+    (wrote-more (wrote-more (wrote-more (wrote-more (wrote-more (write-state .ensures .0) (write-field .ensures .0)) (write-flag .ensures .0)) (write-field2 .ensures .0)) (write-field3 .ensures .0)) (c .before .before .write-flag2 .ensures .0), search needs)
 
 pub write-meta-spec : {M : Type 1} → statement M
 write-meta-spec =

@@ -28,7 +28,10 @@ same-length c = search needs
 
 returns : tie.Need-returns
 unfolding nameText bytes nameSize
-returns c = (rw (c .before .before .before .before .before .before .before .before .before .before .unpack .ensures) at (wrote-more (c .before .before .before .before .before .before .before .write .ensures) (c .before .before .write-hex .ensures .0)), search needs)
+returns c =
+    let unpack = c .before .before .before .before .before .before .before .before .before .before .unpack in
+    let write = c .before .before .before .before .before .before .before .write in
+    (rw (unpack .ensures) at (wrote-more (write .ensures) (c .before .before .write-hex .ensures .0)), search needs)
 
 pub write-name-spec : {M : Type 1} → statement M
 write-name-spec =

@@ -35,7 +35,11 @@ same-length c = search needs
 
 returns : tie.Need-returns
 unfolding recordText field bytes
-returns c = (wrote-more (wrote-more (wrote-more (c .before .before .before .before .before .before .before .before .before .before .before .before .before .before .before .before .before .write-field .ensures .0) (c .before .before .before .before .before .before .before .before .before .before .before .before .write-field2 .ensures .0)) (c .before .before .before .before .before .before .before .write-field3 .ensures .0)) (c .before .before .write-field4 .ensures .0), search needs)
+returns c =
+    let write-field = c .before .before .before .before .before .before .before .before .before .before .before .before .before .before .before .before .before .write-field in
+    let write-field2 = c .before .before .before .before .before .before .before .before .before .before .before .before .write-field2 in
+    let write-field3 = c .before .before .before .before .before .before .before .write-field3 in
+    (wrote-more (wrote-more (wrote-more (write-field .ensures .0) (write-field2 .ensures .0)) (write-field3 .ensures .0)) (c .before .before .write-field4 .ensures .0), search needs)
 
 pub write-record-spec : {M : Type 1} → statement M
 write-record-spec =

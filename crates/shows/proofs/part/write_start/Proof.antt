@@ -35,7 +35,13 @@ same-length c = search needs
 
 returns : tie.Need-returns
 unfolding startText field bytes
-returns c = (rw (← c .before .before .before .before .before .before .before .before .before .before .before .before .before .before .before .before .before .before .before .start-at .ensures) (rw (c .before .before .before .before .before .before .before .before .before .before .before .before .before .before .before .before .trapframe-at .ensures) at (wrote-more (wrote-more (wrote-more (c .before .before .before .before .before .before .before .before .before .before .before .before .before .before .before .write-field .ensures .0) (c .before .before .before .before .before .before .before .before .before .before .write-field2 .ensures .0)) (c .before .before .before .before .before .before .write-record .ensures .0)) (c .before .before .write-name .ensures .0))), search needs)
+returns c =
+    let start-at = c .before .before .before .before .before .before .before .before .before .before .before .before .before .before .before .before .before .before .before .start-at in
+    let trapframe-at = c .before .before .before .before .before .before .before .before .before .before .before .before .before .before .before .before .trapframe-at in
+    let write-field = c .before .before .before .before .before .before .before .before .before .before .before .before .before .before .before .write-field in
+    let write-field2 = c .before .before .before .before .before .before .before .before .before .before .write-field2 in
+    let write-record = c .before .before .before .before .before .before .write-record in
+    (rw (← start-at .ensures) (rw (trapframe-at .ensures) at (wrote-more (wrote-more (wrote-more (write-field .ensures .0) (write-field2 .ensures .0)) (write-record .ensures .0)) (c .before .before .write-name .ensures .0))), search needs)
 
 pub write-start-spec : {M : Type 1} → statement M
 write-start-spec =

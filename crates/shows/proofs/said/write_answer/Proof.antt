@@ -19,7 +19,9 @@ same-length c = search needs
 
 returns : tie.Need-returns
 unfolding answerText bytes
-returns c = (wrote-more (c .before .before .before .before .before .before .before .write-said .ensures .0) (c .before .before .write .ensures), search needs)
+returns c =
+    let write-said = c .before .before .before .before .before .before .before .write-said in
+    (wrote-more (write-said .ensures .0) (c .before .before .write .ensures), search needs)
 
 pub write-answer-spec : {M : Type 1} → statement M
 write-answer-spec =

@@ -23,11 +23,13 @@ put-cell-requires c κs = search needs
 
 returns : tie.Need-returns
 unfolding popped
-returns c = (
-  c .before .before .before .before .before .place-in .ensures .0,
-  rw (c .put-cell .ensures .0, c .before .wrapping-add-u32 .ensures, c .before .before .before .count .ensures),
-  c .put-cell .ensures .1,
-)
+returns c =
+    let place-in = c .before .before .before .before .before .place-in in
+    let count = c .before .before .before .count in (
+      place-in .ensures .0,
+      rw (c .put-cell .ensures .0, c .before .wrapping-add-u32 .ensures, count .ensures),
+      c .put-cell .ensures .1,
+    )
 
 pub pop-from-spec : {M : Type 1} → statement M
 pop-from-spec =
