@@ -17,7 +17,7 @@ use Rattle.rules.specs.Model.{Table, fresh}
 use Rattle.rules.specs.Runs.{Call}
 use Rattle.buffers.specs.Text.{Wrote}
 use Rattle.buffers.proofs.TextLaws.{wrote-none}
-use Rattle.shows.specs.Said.{answerText, answerTop}
+use Rattle.texts.specs.Texts.{answerText, answerTop}
 use Rattle.shows.specs.Shows.{showText}
 use Rattle.desk.specs.Desk.{misreadText, tableAfter, textFor, misreadTop, deskTop, Performed, Answered}
 use Rattle.lines.specs.Meaning.{Meaning, passed, called, listed, shows, renews, misread, meaningOf}

@@ -11,7 +11,7 @@ use Rattle.rules.specs.Runs.{Call, step}
 use Rattle.promises.specs.Order.Sound.{Sound}
 use Rattle.buffers.specs.Text.{Wrote}
 use Rattle.pieces.specs.Pieces.{field}
-use Rattle.shows.specs.Said.{answerText, answerTop}
+use Rattle.texts.specs.Texts.{answerText, answerTop}
 use Rattle.shows.specs.Shows.{showText, showTop}
 use Rattle.lines.specs.declared.Why.{Why}
 use Rattle.lines.specs.declared.Why.the-variants.{UnknownWord, TooFew, TooMany, NotANumber, TooLarge, NotAChoice, NotAName, TooLong}

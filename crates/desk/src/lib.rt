@@ -5,7 +5,7 @@ ghost use Rattle.rules.specs.declared.Answer.the-variants.{Done};
 ghost use Rattle.promises.specs.Order.Sound.{Sound};
 ghost use Rattle.words.specs.Reading.{tableOf};
 ghost use Rattle.buffers.specs.Text.{Wrote};
-ghost use Rattle.shows.specs.Said.{answerTop};
+ghost use Rattle.texts.specs.Texts.{answerTop};
 ghost use Rattle.steps.specs.ByValue.{callOf};
 ghost use Rattle.lines.specs.Meaning.{means, listed};
 ghost use Rattle.desk.specs.Desk.{whyText, misreadText, textFor, whyTop, misreadTop, deskTop, Performed, Answered};
@@ -14,7 +14,6 @@ use lines::Why;
 use rules::Answer;
 use rules::Refusal;
 use rules::Room;
-use shows::said;
 use steps::Call;
 use words::Table;
 
@@ -53,7 +52,7 @@ fn write_list(t: &[u64; Table::WORDS], out: &mut [u8], at: usize, room: u64) -> 
 {
     match listing::room_for(t, room as usize) {
         Room::Fits(_) => listing::write_listing(t, out, at),
-        Room::Short(_) => said::write_answer(out, at, Answer::Refused(Refusal::NoRoom)),
+        Room::Short(_) => texts::write_answer(out, at, Answer::Refused(Refusal::NoRoom)),
     }
 }
 
@@ -63,7 +62,7 @@ fn perform(t: &mut [u64; Table::WORDS], text: &[u8], c: Call, out: &mut [u8], at
     ensures { λ r. ⌜ Performed (callOf (now (text .entry)) c) (tableOf (now (t .entry))) (tableOf (now (t .exit))) (now (out .entry)) at (now (out .exit)) r ⌝ }
 {
     let a = steps::step(t, text, c);
-    said::write_answer(out, at, a)
+    texts::write_answer(out, at, a)
 }
 
 // Answers a line with this number.
@@ -86,7 +85,7 @@ pub fn answer(
         Said::Show => shows::write_show(t, out, at),
         Said::Fresh => {
             words::renew(t);
-            said::write_answer(out, at, Answer::Done)
+            texts::write_answer(out, at, Answer::Done)
         }
         Said::Misread(why) => write_misread(out, at, number, why),
     }

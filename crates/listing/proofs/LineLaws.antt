@@ -21,7 +21,7 @@ use Rattle.rules.specs.Model.{Table, stateCode, is, at, free}
 use Rattle.rules.specs.Listing.{bytes, digits, stateText, lineOf, linesOf, listing}
 use Rattle.words.specs.declared.slot.StartWords.{StartWords}
 use Rattle.words.specs.Reading.{bytesOf, startOf}
-use Rattle.pieces.specs.Names.{nameShown}
+use Rattle.names.specs.Names.{nameShown}
 use Rattle.listing.specs.Lines.{pidText, stateLabelled, nameLabelled, shownLine, lineAt, linesBelow}
 
 -- what a match that is past UNUSED says

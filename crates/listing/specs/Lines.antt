@@ -8,7 +8,7 @@ use Rattle.rules.specs.declared.ProcState.the-variants.{UNUSED}
 use Rattle.rules.specs.declared.Process.{Process}
 use Rattle.rules.specs.Model.{Table, is, at}
 use Rattle.rules.specs.Listing.{bytes, digits, stateText, lineOf, linesOf}
-use Rattle.pieces.specs.Names.{nameShown}
+use Rattle.names.specs.Names.{nameShown}
 
 -- the three pieces of a line
 unfoldable pub pidText : ℕ → List ℕ

@@ -8,8 +8,8 @@ ghost use Rattle.rules.specs.Listing.{stateText};
 ghost use Rattle.words.specs.Reading.{tableOf, bytesOf};
 ghost use Rattle.buffers.specs.Text.{Wrote};
 ghost use Rattle.listing.specs.Lines.{pidText, stateLabelled, nameLabelled, lineAt};
+use names::shown;
 use pieces::digits;
-use pieces::name;
 use pieces::state;
 use rules::ProcState;
 use words::Table;
@@ -40,7 +40,7 @@ pub fn line_len(t: &[u64; Table::WORDS], s: usize) -> usize
     let pid = m.pid;
     let d = digits::decimal(pid.0);
     let w = slot::start_at(t, s);
-    let n = name::shown_name(w.name0, w.name1);
+    let n = shown::shown_name(w.name0, w.name1);
     // 21 bytes are the labels and the end of the line
     21 + (20 - d.from) + state_len(state) + n.len
 }
@@ -65,7 +65,7 @@ fn write_name(buffer: &mut [u8], at: usize, a: u64, b: u64) -> usize
     requires { ⌜ at + length (nameLabelled (bytesOf a ++ bytesOf b)) ≤ length (now buffer) ⌝ }
     ensures { λ r. ⌜ Wrote (now (buffer .entry)) at (nameLabelled (bytesOf a ++ bytesOf b)) (now (buffer .exit)) r ⌝ }
 {
-    let n = name::shown_name(a, b);
+    let n = shown::shown_name(a, b);
     let bytes = n.bytes;
     let len = n.len;
     let on = buffers::write(buffer, at, b" name: ");

@@ -1,1 +1,2 @@
-pub mod PackLaws
+mod PackLaws
+mod NameLaws

@@ -1,10 +1,12 @@
-// A name as the two words that a slot keeps of it.
+// A name as the two words that a slot keeps of it, and out of them.
 ghost use mathlib.Core.Path.{_≡_};
 ghost use mathlib.Core.List.{_++_};
 ghost use Prim.Native.Nat.{_+_, _≤_};
 ghost use lib.ListN.{getD};
 ghost use Rattle.rules.specs.Calls.{padded};
 ghost use Rattle.words.specs.Reading.{tab, bytesOf};
+
+pub mod shown; // a name as the listing shows it
 
 pub struct NameWords {
     pub low: u64,
@@ -41,4 +43,28 @@ pub fn pack(name: &[u8]) -> NameWords
     let low = word(name, 0);
     let high = word(name, 8);
     NameWords { low, high }
+}
+
+// All sixteen bytes.
+pub fn unpack(a: u64, b: u64) -> [u8; 16]
+    ensures { λ r. ⌜ r ≡ bytesOf a ++ bytesOf b ⌝ }
+{
+    [
+        (a % 256) as u8,
+        (a / 256 % 256) as u8,
+        (a / 65536 % 256) as u8,
+        (a / 16777216 % 256) as u8,
+        (a / 4294967296 % 256) as u8,
+        (a / 1099511627776 % 256) as u8,
+        (a / 281474976710656 % 256) as u8,
+        (a / 72057594037927936 % 256) as u8,
+        (b % 256) as u8,
+        (b / 256 % 256) as u8,
+        (b / 65536 % 256) as u8,
+        (b / 16777216 % 256) as u8,
+        (b / 4294967296 % 256) as u8,
+        (b / 1099511627776 % 256) as u8,
+        (b / 281474976710656 % 256) as u8,
+        (b / 72057594037927936 % 256) as u8,
+    ]
 }

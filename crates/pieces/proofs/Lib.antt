@@ -1,3 +1,2 @@
 mod DigitLaws
-mod NameLaws
 mod PieceLaws

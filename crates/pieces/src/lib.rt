@@ -10,7 +10,6 @@ use rules::Parent;
 
 pub mod digits; // a number in decimal
 pub mod state; // a state's name
-pub mod name; // a slot's name
 
 fn write_number(out: &mut [u8], at: usize, n: u64) -> usize
     requires { ⌜ at + numberTop ≤ length (now out) ⌝ }

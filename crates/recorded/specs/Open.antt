@@ -5,7 +5,7 @@ use Rattle.promises.specs.Laws.Digits.{readOn, valueOf}
 use Rattle.buffers.specs.Text.{put}
 use Rattle.codes.specs.Codes.{signedOf, isFlag, yes, isWish, wishOf, isMapped, mappedOf, onlyIf, calls, callNumbered, callIn}
 use Rattle.pieces.specs.Pieces.{signedDigits, flagText, placeText, hexDigit, hexText, field, flag, place}
-use Rattle.shows.specs.Said.{refusalWords, saidOf, answerText}
+use Rattle.texts.specs.Texts.{refusalWords, saidOf, answerText}
 use Rattle.shows.specs.Shows.{others, separated, queueText, hartsText, headText, metaText, groupText, kinText, recordText, nameText, startText, usedText, slotText, slotsText, showText}
 use Rattle.lines.specs.Words.{front, past, spaceIs, firstWord, afterWord, same}
 use Rattle.lines.specs.Grammar.{command, grammar, numberAmong, commandOf, isCommand, kindsOf, kindAt}

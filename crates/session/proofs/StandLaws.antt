@@ -66,7 +66,7 @@ module _ (s₀ : Seat) (line₀ name₀ out₀ : List ℕ) where
       out-same = c ∙ s .out-same;
     }
 
-    module _ {piece u line' d : List ℕ} {r : Taken} (k : HeardPart here piece u line' d r) (c : length d ≡ length out) where
+    module _ {piece u line' d : List ℕ} {r : Taken} (k : HeardPart here out piece u line' d r) (c : length d ≡ length out) where
       pub room-made : (deskTop ≤ length d) × (r .place .at ≤ length d)
       room-made = (omega (arith, s .heard .ready .forAnswer), k .holds .at)
 
@@ -97,7 +97,7 @@ module _ (s₀ : Seat) (line₀ name₀ out₀ : List ℕ) where
 
   module _ {chunk t line name out : List ℕ} {len number at done : ℕ} (m : Midway chunk t line name out len number at done) where
     pub next : {u line' d : List ℕ} {r : Taken}
-        → HeardPart (seatOf t line out (record { len = len; number = number; at = at })) (take (length chunk - done) (drop done chunk)) u line' d r
+        → HeardPart (seatOf t line out (record { len = len; number = number; at = at })) out (take (length chunk - done) (drop done chunk)) u line' d r
         → length d ≡ length out → done < length chunk → {name' : List ℕ} {n : ℕ} → length line' ≡ length line → length name' ≡ length name → n + deskTop ≤ length d
         → Midway chunk u line' name' d (r .place .len) (r .place .number) n (done + r .used)
     next {u} {line'} {d} {r} k c h {name'} {n} a b f = record {

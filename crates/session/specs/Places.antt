@@ -2,7 +2,7 @@
 use Prim.Native.Nat.{ℕ, _+_, _≤_}
 use mathlib.Core.Path.{_≡_}
 use mathlib.Core.List.{List}
-use lib.ListN.{length, take}
+use lib.ListN.{length, take, drop}
 use Rattle.promises.specs.Order.Sound.{Sound}
 use Rattle.words.specs.Reading.{tableOf}
 use Rattle.desk.specs.Desk.{deskTop}
@@ -30,15 +30,16 @@ pub record Ready (t line name out : List ℕ) (p : Place) : Type 0 where
   pub len : p .len ≤ lineRoom
   pub forAnswer : p .at + deskTop ≤ length out
 
--- the buffers hold this seat, and the table is in order
-pub record Seated (s : Seat) (t line out : List ℕ) (p : Place) : Type 0 where
+-- the buffers hold this seat, and the table is in order; behind what was said `out` is as it was
+pub record Seated (s : Seat) (was t line out : List ℕ) (p : Place) : Type 0 where
   pub seat : seatOf t line out p ≡ s
   pub sound : Sound (tableOf t)
   pub len : p .len ≤ lineRoom
   pub at : p .at ≤ length out
+  pub rest : drop (p .at) out ≡ drop (p .at) was
 
 -- so much of the input was heard, and all of it unless another answer might not fit
-pub record HeardPart (s : Seat) (input t line out : List ℕ) (r : Taken) : Type 0 where
-  pub holds : Seated (hears s (take (r .used) input)) t line out (r .place)
+pub record HeardPart (s : Seat) (was input t line out : List ℕ) (r : Taken) : Type 0 where
+  pub holds : Seated (hears s (take (r .used) input)) was t line out (r .place)
   pub used : r .used ≤ length input
   pub all : r .place .at + deskTop ≤ length out → r .used ≡ length input

@@ -11,7 +11,7 @@ use Rattle.session.specs.Talk.{Seat, hears}
 use Rattle.session.specs.Places.{seatOf, Ready, HeardPart}
 
 module _ {t line name out : List ℕ} {p : Place} (a : Ready t line name out p) (piece : List ℕ) {u l d : List ℕ} {r : Taken}
-    (k : HeardPart (seatOf t line out p) piece u l d r) (same : length d ≡ length out) (some : 0 < length piece) where
+    (k : HeardPart (seatOf t line out p) out piece u l d r) (same : length d ≡ length out) (some : 0 < length piece) where
   stays : r .used ≡ 0 → r .place .at ≡ p .at
   unfolding hears
   stays e =

@@ -1,3 +1,2 @@
 pub mod ShowLaws
 mod SlotsLaws
-mod SaidLaws

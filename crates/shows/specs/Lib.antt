@@ -1,3 +1,1 @@
 pub mod Shows
-pub mod Said
-pub mod Rows

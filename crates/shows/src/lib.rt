@@ -1,4 +1,4 @@
-// An answer, and the table, as text in a lent buffer. Each function requires room for the longest text, and returns the place after it.
+// The table as text in a lent buffer. Each function requires room for the longest text, and returns the place after it.
 ghost use Prim.Native.Nat.{_+_, _*_, _<_, _≤_};
 ghost use lib.ListN.{length};
 ghost use Rattle.rules.specs.Sizes.{slotCount};
@@ -11,7 +11,6 @@ use words::Table;
 use words::book;
 use words::slot;
 
-pub mod said; // an answer
 mod head; // the queue and the harts
 mod part; // a slot's three parts
 

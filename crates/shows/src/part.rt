@@ -9,7 +9,6 @@ ghost use Rattle.rules.specs.Listing.{bytes, stateText};
 ghost use Rattle.words.specs.Reading.{tableOf, startOf, InGroups};
 ghost use Rattle.buffers.specs.Text.{Wrote};
 ghost use Rattle.shows.specs.Shows.{metaText, groupText, kinText, recordText, nameText, startText, stateTop, metaTop, groupTop, kinTop, recordTop, nameTop, startTop};
-use pieces::name;
 use pieces::state;
 use rules::Member;
 use rules::ProcMeta;
@@ -91,7 +90,7 @@ fn write_name(out: &mut [u8], at: usize, w: StartWords) -> usize
     requires { ⌜ at + nameTop ≤ length (now out) ⌝ }
     ensures { λ r. ⌜ Wrote (now (out .entry)) at (nameText (startOf w)) (now (out .exit)) r × (r ≤ at + nameTop) ⌝ }
 {
-    let name = name::unpack(w.name0, w.name1);
+    let name = names::unpack(w.name0, w.name1);
     let on = buffers::write(out, at, b" name ");
     pieces::write_hex(out, on, &name)
 }

@@ -7,7 +7,7 @@ use lib.Seq.{length-take-le}
 use borrow.Author.Needs.{needs}
 use Rattle.rules.specs.Listing.{bytes}
 use Rattle.words.specs.Reading.{bytesOf}
-use Rattle.pieces.specs.Names.{nameShown}
+use Rattle.names.specs.Names.{nameShown}
 use Rattle.listing.specs.Lines.{nameLabelled}
 use Rattle.buffers.proofs.TextLaws.{fits-next, three-next, wrote-more}
 use Rattle.listing.proofs.line.write_name.Statement.{statement}
