@@ -88,10 +88,10 @@ fn thread_of(t: &[u64; Table::WORDS], m: Member, i: usize) -> bool
     let Member::In(g) = m else {
         return false;
     };
-    let Member::In(x) = group else {
+    let Member::In(own) = group else {
         return false;
     };
-    g == x
+    g == own
 }
 
 fn thread_named(t: &[u64; Table::WORDS], p: Pid, m: Member, i: usize) -> bool
@@ -134,8 +134,8 @@ pub fn new_group(t: &[u64; Table::WORDS]) -> usize
     ensures { λ r. ⌜ (r ≡ newGroup (tableOf (now (t .entry)) .books)) × (r < groupCount) ⌝ }
 {
     for g in 0..Table::SLOTS {
-        let x = book::group_at(t, g);
-        if x.count == 0 {
+        let space = book::group_at(t, g);
+        if space.count == 0 {
             return g;
         }
     }

@@ -29,8 +29,8 @@ pub fn write_harts(t: &[u64; Table::WORDS], out: &mut [u8], at: usize) -> usize
     ensures { λ r. ⌜ Wrote (now (out .entry)) at (hartsText (tableOf (now (t .entry)) .core .harts)) (now (out .exit)) r × (r ≤ at + hartsTop) ⌝ }
 {
     let mut on = pieces::write_place(out, at, b" harts ", book::hart_at(t, 0));
-    for h in 1..Table::HARTS {
-        on = pieces::write_place(out, on, b",", book::hart_at(t, h));
+    for hart in 1..Table::HARTS {
+        on = pieces::write_place(out, on, b",", book::hart_at(t, hart));
     }
     on
 }

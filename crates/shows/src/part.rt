@@ -47,9 +47,9 @@ fn write_group(t: &[u64; Table::WORDS], out: &mut [u8], at: usize, g: Member) ->
     match g {
         Member::Alone => buffers::write(out, at, b" group - size 0"),
         Member::In(n) => {
-            let x = book::group_at(t, n);
+            let group = book::group_at(t, n);
             let on = pieces::write_field(out, at, b" group ", n as u64);
-            pieces::write_field(out, on, b" size ", x.size)
+            pieces::write_field(out, on, b" size ", group.size)
         }
     }
 }

@@ -62,13 +62,13 @@ pub fn write_said(out: &mut [u8], at: usize, a: Answer) -> usize
         Answer::Done => buffers::write(out, at, b"done"),
         Answer::Made(p) => pieces::write_field(out, at, b"pid ", p.0),
         Answer::Handed(s) => pieces::write_field(out, at, b"slot ", s.0 as u64),
-        Answer::Reaped(p, x) => {
-            let on = pieces::write_field(out, at, b"reaped ", p.0);
-            pieces::write_field(out, on, b" ", x)
+        Answer::Reaped(pid, status) => {
+            let on = pieces::write_field(out, at, b"reaped ", pid.0);
+            pieces::write_field(out, on, b" ", status)
         }
-        Answer::Joined(x) => {
+        Answer::Joined(status) => {
             let on = buffers::write(out, at, b"joined ");
-            pieces::write_signed(out, on, x)
+            pieces::write_signed(out, on, status)
         }
         Answer::Blocked => buffers::write(out, at, b"blocked"),
         Answer::Refused(r) => {
