@@ -46,9 +46,9 @@ write-place-requires-2 : tie.Need-write-place-requires-2 Inv-loop μ-loop
 unfolding hartCount
 write-place-requires-2 c κs = search needs
 
-add-h : tie.Need-add-h Inv-loop μ-loop
+add-hart : tie.Need-add-hart Inv-loop μ-loop
 unfolding hartCount
-add-h c = omega arith
+add-hart c = omega arith
 
 loop-less : tie.Need-loop-less Inv-loop μ-loop
 unfolding hartCount
@@ -86,7 +86,7 @@ write-harts-spec =
     slice-aggregate-write-place-2
     hart-at-requires-2
     write-place-requires-2
-    add-h
+    add-hart
     loop-less
     loop-again
     same-length
