@@ -235,6 +235,10 @@ module _ (names w : List ℕ) where
           sought = v .sought ∙ omega (arith, placed false (told ∙ f));
         }
 
-pub names-spelled : bytes " list show fresh boot start spawn system-return fork thread dispatch yield sleep wake kill wait join thread-exit exit grow" ≡ spelled grammar
+-- the code's line of names
+abbrev pub allNames : List ℕ
+allNames = bytes " list show fresh boot start spawn system-return fork thread dispatch yield sleep wake kill wait join thread-exit exit grow"
+
+pub names-spelled : allNames ≡ spelled grammar
 unfolding spelled grammar command bytes
 names-spelled = refl

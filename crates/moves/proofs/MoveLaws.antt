@@ -2,20 +2,19 @@
 use Prim.Native.Nat.{ℕ}
 use mathlib.Core.Path.{_≡_, refl, ap, _∙_}
 use Rattle.rules.specs.declared.Parent.the-variants.{Nobody, Of}
-use Rattle.rules.specs.declared.ProcMeta.{ProcMeta}
 use Rattle.rules.specs.declared.Process.{Process}
-use Rattle.rules.specs.Model.{Table, slot, onMeta, asRunnable, asRunning}
+use Rattle.rules.specs.Model.{Table, slot, toRunnable, toRunning}
 use Rattle.rules.specs.Moves.{change, publish, hand, idle, yieldOn}
 use Rattle.promises.specs.Order.Chains.{onCore}
 use Rattle.words.specs.Effects.{withHart, withQueue, enqueue}
 
 -- u is t with the slot's meta changed
 module _ (t : Table) (s : ℕ) {u : Table} where
-  pub publish-law : u ≡ onCore (change (onMeta asRunnable) s) t → onCore (enqueue s) u ≡ onCore (publish s) t
+  pub publish-law : u ≡ onCore (change toRunnable s) t → onCore (enqueue s) u ≡ onCore (publish s) t
   unfolding publish enqueue withQueue onCore
   publish-law e = ap (onCore (enqueue s)) e
 
-  pub hand-law : (h : ℕ) → u ≡ onCore (change (onMeta asRunning) s) t → onCore (withHart h (Of (slot s))) u ≡ onCore (λ c. hand h s (c .queue) c) t
+  pub hand-law : (h : ℕ) → u ≡ onCore (change toRunning s) t → onCore (withHart h (Of (slot s))) u ≡ onCore (λ c. hand h s (c .queue) c) t
   unfolding hand change withHart onCore
   hand-law h e = ap (onCore (withHart h (Of (slot s)))) e
 
@@ -37,7 +36,7 @@ module _ (t : Table) (h s : ℕ) {u : Table} (e : u ≡ onCore (idle h) t) where
   unfolding yieldOn onCore
   yield-law = ap (onCore (publish s)) e
 
-  -- the caller stops, and its meta is what f makes of it
-  pub stop-law : (f : ProcMeta → ProcMeta) {v : Table} → v ≡ onCore (change (onMeta f) s) u → v ≡ onCore (λ c. change (onMeta f) s (idle h c)) t
+  -- the caller stops, and is what f makes of it
+  pub stop-law : (f : Process → Process) {v : Table} → v ≡ onCore (change f s) u → v ≡ onCore (λ c. change f s (idle h c)) t
   unfolding onCore
-  stop-law f q = q ∙ ap (onCore (change (onMeta f) s)) e
+  stop-law f q = q ∙ ap (onCore (change f s)) e

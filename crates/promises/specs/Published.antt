@@ -7,7 +7,7 @@ use mathlib.Core.List.{List}
 use lib.ListN.{getD, set}
 use Rattle.promises.specs.Types.{ALLOCATED, RUNNABLE, RUNNING, SLEEPING, Parent, Process}
 use Rattle.rules.specs.Sizes.{slotCount}
-use Rattle.rules.specs.Model.{Core, Table, at, free, taken, is, onMeta, asRunnable, withParent}
+use Rattle.rules.specs.Model.{Core, Table, at, free, taken, is, toRunnable, withParent}
 use Rattle.rules.specs.Moves.{change, publish, idle, yieldOn, sleepOn, zombieOn, publishIf, sleepsOn, wakeOne, wake, wakeOf, reap}
 use Rattle.rules.specs.Calls.{fill, spent}
 use Rattle.promises.specs.Laws.Bools.{and-left, clash}
@@ -37,7 +37,7 @@ record Woken (p q : Process) : Type 0 where
 woken-same : (p : Process) → Woken p p
 woken-same p = record { ready = waited; asleep = λ e. e }
 
-woken-one : (p q : Process) → Woken p q → is SLEEPING q ≡ true → Woken p (onMeta asRunnable q)
+woken-one : (p q : Process) → Woken p q → is SLEEPING q ≡ true → Woken p (toRunnable q)
 woken-one p q w e = record { ready = λ _. fromSleeping (w .asleep e); asleep = λ f. absurd (clash {b = false} f refl) }
 
 wake-woken : (ch : ℕ) (c : Core) (j : ℕ) → Woken (at c j) (at (wake ch c) j)
@@ -45,7 +45,7 @@ unfolding wake wakeOne publishIf publish change
 wake-woken ch c = sweep-keeps (λ (d : Core). (j : ℕ) → Woken (at c j) (at d j)) (wakeOne ch) (λ s d w. go s d w (sleepsOn ch (at d s)) refl) slotCount c (λ j. woken-same (at c j))
   where
     go : (s : ℕ) (d : Core) → ((j : ℕ) → Woken (at c j) (at d j)) → (b : Bool) → sleepsOn ch (at d s) ≡ b → (j : ℕ) → Woken (at c j) (at (publishIf b s d) j)
-    go s d w true e = all-set (λ j. Woken (at c j)) (d .slots) s (onMeta asRunnable (at d s)) free w (woken-one (at c s) (at d s) (w s) (and-left _ _ e))
+    go s d w true e = all-set (λ j. Woken (at c j)) (d .slots) s (toRunnable (at d s)) free w (woken-one (at c s) (at d s) (w s) (and-left _ _ e))
     go s d w false e = w
 
 wakeOf-came : (p : Parent) (c : Core) (j : ℕ) → is RUNNABLE (at (wakeOf p c) j) ≡ true → From (at c j)

@@ -76,6 +76,22 @@ asZombie x m = record { state = ZOMBIE; channel = m .channel; killed = m .killed
 abbrev pub asKilled : ProcMeta → ProcMeta
 asKilled m = record { state = m .state; channel = m .channel; killed = true; xstate = m .xstate; pid = m .pid; queued = m .queued }
 
+-- .. as changes of the whole slot: the moves and what is proved of them speak of these alone
+abbrev pub toRunnable : Process → Process
+toRunnable p = onMeta asRunnable p
+
+abbrev pub toRunning : Process → Process
+toRunning p = onMeta asRunning p
+
+abbrev pub toSleeping : ℕ → Process → Process
+toSleeping ch p = onMeta (asSleeping ch) p
+
+abbrev pub toZombie : ℕ → Process → Process
+toZombie x p = onMeta (asZombie x) p
+
+abbrev pub toKilled : Process → Process
+toKilled p = onMeta asKilled p
+
 abbrev pub withParent : Parent → Process → Process
 withParent q p = record {
   meta = p .meta;

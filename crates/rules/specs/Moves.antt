@@ -7,7 +7,7 @@ use lib.ListN.{set}
 use lib.Dec.{eqb, leb}
 use Rattle.rules.specs.Types.{SLEEPING, Parent, Nobody, Of, Member, Alone, In, Process, Group}
 use Rattle.rules.specs.Sizes.{slotCount, ownChannel}
-use Rattle.rules.specs.Model.{Core, Books, Table, at, groupAt, noGroup, free, is, isSlot, slot, onMeta, asRunnable, asRunning, asSleeping, asZombie, asKilled, withParent}
+use Rattle.rules.specs.Model.{Core, Books, Table, at, groupAt, noGroup, free, is, isSlot, slot, toRunnable, toRunning, toSleeping, toZombie, toKilled, withParent}
 
 -- ---- one slot, one hart
 unfoldable pub change : (Process → Process) → ℕ → Core → Core
@@ -15,12 +15,12 @@ change f s c = record { slots = set (c .slots) s (f (at c s)); queue = c .queue;
 
 -- RUNNABLE, queued, appended to the tail
 unfoldable pub publish : ℕ → Core → Core
-publish s c = let d = change (onMeta asRunnable) s c in record { slots = d .slots; queue = d .queue ++ (s ∷ []); harts = d .harts }
+publish s c = let d = change toRunnable s c in record { slots = d .slots; queue = d .queue ++ (s ∷ []); harts = d .harts }
 
 -- the head s, before rest, leaves the queue and runs on hart h
 unfoldable pub hand : ℕ → ℕ → List ℕ → Core → Core
 hand h s rest c =
-    let d = change (onMeta asRunning) s c in record { slots = d .slots; queue = rest; harts = set (d .harts) h (Of (slot s)) }
+    let d = change toRunning s c in record { slots = d .slots; queue = rest; harts = set (d .harts) h (Of (slot s)) }
 
 -- hart h runs nothing
 unfoldable pub idle : ℕ → Core → Core
@@ -31,10 +31,10 @@ unfoldable pub yieldOn : ℕ → ℕ → Core → Core
 yieldOn h s c = publish s (idle h c)
 
 unfoldable pub sleepOn : ℕ → ℕ → ℕ → Core → Core
-sleepOn h s ch c = change (onMeta (asSleeping ch)) s (idle h c)
+sleepOn h s ch c = change (toSleeping ch) s (idle h c)
 
 unfoldable pub zombieOn : ℕ → ℕ → ℕ → Core → Core
-zombieOn h s x c = change (onMeta (asZombie x)) s (idle h c)
+zombieOn h s x c = change (toZombie x) s (idle h c)
 
 -- ---- scans
 -- f at 0, 1, .. below n, in that order
@@ -71,7 +71,7 @@ wakeOf (Of s) c = wake (ownChannel (s .0)) c
 
 -- killed, and published if SLEEPING
 unfoldable pub slay : ℕ → Core → Core
-slay s c = publishIf (is SLEEPING (at c s)) s (change (onMeta asKilled) s c)
+slay s c = publishIf (is SLEEPING (at c s)) s (change toKilled s c)
 
 -- a slot whose parent is s gets init, and init's channel is woken
 unfoldable pub handOver : Parent → ℕ → ℕ → Core → Core

@@ -12,7 +12,7 @@ use words::book;
 use words::slot;
 
 mod head; // the queue and the harts
-mod part; // a slot's three parts
+mod part; // a slot's parts
 
 // At the longest: a number, the first line, a name, a slot's line.
 const NUMBER_TOP: usize = 20;

@@ -1,4 +1,4 @@
-// The three parts of a slot's line.
+// The parts of a slot's line.
 ghost use mathlib.Core.Path.{_≡_};
 ghost use mathlib.Core.List.{_++_};
 ghost use Prim.Native.Nat.{_+_, _-_, _<_, _≤_};

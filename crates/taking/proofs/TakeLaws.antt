@@ -23,7 +23,7 @@ use Rattle.scans.specs.declared.Found.{Found}
 use Rattle.scans.specs.declared.Test.the-variants.{Unused}
 use Rattle.scans.specs.Tests.{passes, asOption}
 use Rattle.taking.specs.declared.Got.the-variants.{No, Is}
-use Rattle.taking.specs.Parts.{callerOf, takenOf, afterTake}
+use Rattle.taking.specs.Parts.{callerOf, takenOf, afterTake, slotOf}
 
 -- ---- the caller
 module _ (c : Core) (h : ℕ) where
@@ -61,11 +61,9 @@ unfolding passes onBooks withPids
 unused-found t u n r x e f g = ap (λ (v : Table). lowest (is UNUSED) (v .core .slots)) (sym f) ∙ sym e ∙ ap (λ (y : Found). asOption y) g
 
 -- ---- a slot freed
-pub free-is : _≡_ {A = Process} (record {
-  meta = record { state = UNUSED; channel = 0; killed = false; xstate = 0; pid = pid 0; queued = false };
-  kin = record { group = Alone; parent = Nobody; thread = false; system = false };
-  start = startOf (record { below = 0; sp = 0; entry = 0; top = 0; arg = 0; ret = 0; name0 = 0; name1 = 0 });
-}) free
+pub free-is : slotOf (record { state = UNUSED; channel = 0; killed = false; xstate = 0; pid = pid 0; queued = false })
+    (record { group = Alone; parent = Nobody; thread = false; system = false })
+    (startOf (record { below = 0; sp = 0; entry = 0; top = 0; arg = 0; ret = 0; name0 = 0; name1 = 0 })) ≡ free
 unfolding free trapframe trampoline pageSize nameSize bytesOf tab tabFrom
 free-is = refl
 
@@ -96,7 +94,7 @@ pub leave-in : (t : Table) (m : Member) (g : ℕ) → m ≡ In g → onBooks (se
 unfolding leaveGroup onBooks
 leave-in t m g e = rw e
 
--- a slot's three parts are those of a free one, and its group was left before
+-- a slot's parts are those of a free one, and its group was left before
 pub reap-law : (t : Table) (i : ℕ) (m : Member) {u : Table} → m ≡ at (t .core) i .kin .group → u ≡ onBooks (leaveGroup m) t → onCore (change (λ _. free) i) u ≡ reap i t
 unfolding reap onCore onBooks
 reap-law t i m e f = ap (onCore (change (λ _. free) i)) (f ∙ ap (λ (n : Member). onBooks (leaveGroup n) t) e)

@@ -60,7 +60,7 @@ pub fn alloc_proc(t: &mut [u64; Table::WORDS]) -> Got
     Got::Is(i)
 }
 
-// A slot's three parts, all set.
+// A slot's parts, all set.
 fn set_slot(t: &mut [u64; Table::WORDS], i: usize, m: ProcMeta, k: Kin, b: StartWords)
     requires { ⌜ (i < slotCount) × InGroups (k .group) × InTable (k .parent) ⌝ }
     ensures { λ _. ⌜ tableOf (now (t .exit)) ≡ onCore (fill i (slotOf m k (startOf b))) (tableOf (now (t .entry))) ⌝ }
@@ -120,7 +120,7 @@ fn leave_group(t: &mut [u64; Table::WORDS], m: Member)
     leave(t, g);
 }
 
-// A slot's three parts as a free slot has them.
+// A slot's parts as a free slot has them.
 fn clear(t: &mut [u64; Table::WORDS], i: usize)
     requires { ⌜ i < slotCount ⌝ }
     ensures { λ _. ⌜ tableOf (now (t .exit)) ≡ onCore (change toFree i) (tableOf (now (t .entry))) ⌝ }

@@ -12,7 +12,7 @@ use Rattle.rules.specs.declared.Parent.the-variants.{Nobody, Of}
 use Prim.Native.Nat.{_<_}
 use lib.ListN.{length}
 use Rattle.rules.specs.Sizes.{slotCount, ownChannel}
-use Rattle.rules.specs.Model.{Core, Table, at, is, onMeta, asKilled, withParent}
+use Rattle.rules.specs.Model.{Core, Table, at, is, toKilled, withParent}
 use Rattle.rules.specs.Moves.{change, publish, sweep, publishIf, wakeOne, wake, wakeOf, slay, handOver, reparent}
 use Rattle.promises.specs.Laws.Bools.{and-no}
 use Rattle.promises.specs.Order.Sound.{Queued}
@@ -73,11 +73,11 @@ wake-somebody p s t e = rw e
 
 -- ---- kill
 module _ (t : Table) (s : ℕ) where
-  pub slay-asleep : is SLEEPING (at (t .core) s) ≡ true → onCore (publish s) (onCore (change (onMeta asKilled) s) t) ≡ onCore (slay s) t
+  pub slay-asleep : is SLEEPING (at (t .core) s) ≡ true → onCore (publish s) (onCore (change toKilled s) t) ≡ onCore (slay s) t
   unfolding slay publishIf onCore
   slay-asleep e = rw e
 
-  pub slay-awake : is SLEEPING (at (t .core) s) ≡ false → onCore (change (onMeta asKilled) s) t ≡ onCore (slay s) t
+  pub slay-awake : is SLEEPING (at (t .core) s) ≡ false → onCore (change toKilled s) t ≡ onCore (slay s) t
   unfolding slay publishIf onCore
   slay-awake e = rw e
 

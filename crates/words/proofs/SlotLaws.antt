@@ -30,11 +30,7 @@ module _ (w : List ℕ) (s : ℕ) (sb : s < slotCount) (lw : length w ≡ wordCo
   set-kin-law k p q =
       row-table w _ s _ (withKin k) sb
       (row-put systemColumn _ (lit< tt) sb (row-put threadColumn _ (lit< tt) sb (row-put parentColumn _ (lit< tt) sb (row-put groupColumn _ (lit< tt) sb (row-here w s lw)))))
-      (λ i. record {
-        meta = processOf (rowOf w s) .meta;
-        kin = record { group = member-back (k .group) p i; parent = parent-back (k .parent) q i; thread = flag-back (k .thread) i; system = flag-back (k .system) i };
-        start = processOf (rowOf w s) .start;
-      })
+      (λ i. withKin (record { group = member-back (k .group) p i; parent = parent-back (k .parent) q i; thread = flag-back (k .thread) i; system = flag-back (k .system) i }) (processOf (rowOf w s)))
 
   pub set-start-law : (b : StartWords)
       → tableOf (set (set (set (set (set (set (set (set w (columnAt belowColumn s) (b .below)) (columnAt spColumn s) (b .sp)) (columnAt entryColumn s) (b .entry)) (columnAt topColumn s) (b .top)) (columnAt argColumn s) (b .arg))

@@ -10,7 +10,7 @@ ghost use Rattle.words.specs.Layout.{columns, cells, columnAt, cellAt, w
 ghost use Rattle.words.specs.Reading.{tableOf};
 
 pub mod word; // what one word means
-pub mod slot; // a slot's fields and its three parts
+pub mod slot; // a slot's fields and its parts
 pub mod book; // groups, harts, init, the pid counter
 pub mod queue; // the run queue
 

@@ -1,4 +1,4 @@
-// A slot's fields and its three parts, read and set.
+// A slot's fields and its parts, read and set.
 ghost use mathlib.Core.Path.{_≡_};
 ghost use Prim.Native.Nat.{_<_};
 ghost use Rattle.rules.specs.Sizes.{slotCount};

@@ -1,7 +1,7 @@
 //! What was counted.
 
 use std::fmt::{Display, Formatter, Result};
-use text::{Answer, Call};
+use text::{Answer, Call, Refusal};
 
 /// Where the Rust and document 01 are known to differ; docs/DIFFERENCES.md has an entry for each.
 #[derive(Clone, Copy, PartialEq, Eq, Debug)]
@@ -69,6 +69,9 @@ const ANSWERS: [&str; 7] = [
     "done", "pid", "slot", "reaped", "joined", "blocked", "broken",
 ];
 
+/// A place for each refusal's number, and for 0.
+const NUMBERS: usize = Refusal::LAST as usize + 1;
+
 /// The place of a call in `CALLS`.
 fn place_of(call: &Call) -> usize {
     match call {
@@ -112,9 +115,9 @@ pub struct Counts {
     /// Answers that came from the Rust.
     pub answers: u64,
     /// Answers of document 01 alone, by refusal number.
-    pub added: [u64; 19],
+    pub added: [u64; NUMBERS],
     /// The Rust's answers by call: each of `ANSWERS`, then the refusals by number.
-    pub by_call: [[u64; 26]; CALLS.len()],
+    pub by_call: [[u64; ANSWERS.len() + NUMBERS]; CALLS.len()],
     pub fields: u64,
     pub listed: [u64; KINDS.len()],
     /// Calls that went on in the Rust's own loop.
@@ -149,8 +152,8 @@ impl Counts {
     }
 }
 
-fn by_number(numbers: &[u64; 19]) -> String {
-    let used = (1..19).filter(|&n| numbers[n] > 0);
+fn by_number(numbers: &[u64; NUMBERS]) -> String {
+    let used = (1..NUMBERS).filter(|&n| numbers[n] > 0);
     let parts: Vec<_> = used.map(|n| format!("{n}: {}", numbers[n])).collect();
     match parts.is_empty() {
         true => "none".to_string(),

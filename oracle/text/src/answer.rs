@@ -27,6 +27,9 @@ pub enum Refusal {
 }
 
 impl Refusal {
+    /// The one with the largest number.
+    pub const LAST: Refusal = Refusal::NoMemory;
+
     pub fn number(self) -> u64 {
         self as u64
     }

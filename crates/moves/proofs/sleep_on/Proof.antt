@@ -1,6 +1,6 @@
 use Rattle.moves.proofs.MoveLaws.{stop-law}
 use Rattle.words.specs.Reading.{tableOf}
-use Rattle.rules.specs.Model.{asSleeping}
+use Rattle.rules.specs.Model.{toSleeping}
 use Rattle.rules.specs.Moves.{sleepOn}
 use Rattle.words.proofs.Changes.{change-then}
 use borrow.Author.Needs.{needs}
@@ -23,7 +23,7 @@ returns c =
     let idle = c .before .before .before .before .idle in
     let a = entry .args in
     let asleep = change-then _ _ (a .caller) _ (c .before .before .set-channel .ensures) (c .set-state .ensures) in
-    stop-law (tableOf (a .t .now)) (a .hart) (a .caller) (idle .ensures) (asSleeping (a .channel)) asleep
+    stop-law (tableOf (a .t .now)) (a .hart) (a .caller) (idle .ensures) (toSleeping (a .channel)) asleep
 
 pub sleep-on-spec : {M : Type 1} → statement M
 sleep-on-spec = tie.close (tie.spec idle-requires set-channel-requires set-state-requires returns)

@@ -1,6 +1,6 @@
 use Rattle.moves.proofs.MoveLaws.{stop-law}
 use Rattle.words.specs.Reading.{tableOf}
-use Rattle.rules.specs.Model.{asZombie}
+use Rattle.rules.specs.Model.{toZombie}
 use Rattle.rules.specs.Moves.{zombieOn}
 use Rattle.words.proofs.Changes.{change-then}
 use borrow.Author.Needs.{needs}
@@ -23,7 +23,7 @@ returns c =
     let idle = c .before .before .before .before .idle in
     let a = entry .args in
     let dead = change-then _ _ (a .caller) _ (c .before .before .set-xstate .ensures) (c .set-state .ensures) in
-    stop-law (tableOf (a .t .now)) (a .hart) (a .caller) (idle .ensures) (asZombie (a .status)) dead
+    stop-law (tableOf (a .t .now)) (a .hart) (a .caller) (idle .ensures) (toZombie (a .status)) dead
 
 pub zombie-on-spec : {M : Type 1} → statement M
 zombie-on-spec = tie.close (tie.spec idle-requires set-xstate-requires set-state-requires returns)

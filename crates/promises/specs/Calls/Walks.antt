@@ -11,7 +11,7 @@ use lib.Dec.{leb}
 use borrow.Author.Tests.{leb-true, leb-false}
 use Rattle.promises.specs.Types.{UNUSED, SLEEPING, ZOMBIE, Parent, Nobody, Of, Member, Kin, Process}
 use Rattle.rules.specs.Sizes.{slotCount}
-use Rattle.rules.specs.Model.{Core, Table, at, free, is, isSlot, known, onMeta, asKilled, withParent}
+use Rattle.rules.specs.Model.{Core, Table, at, free, is, isSlot, known, toKilled, withParent}
 use Rattle.rules.specs.Moves.{change, publish, sweep, lowest, publishIf, sleepsOn, wakeOne, wake, wakeOf, slay, handOver, reparent, reap}
 use Rattle.rules.specs.Calls.{threadOf, reapIfZombie, reapFirst, reapThreads}
 use Rattle.promises.specs.Laws.Bools.{and-left, clash}
@@ -52,30 +52,30 @@ wakeOf-harts p c = wakeOf-any (λ (d : Core). d .harts ≡ c .harts) c refl (λ 
 
 -- ---- kill
 -- the mark moves no state
-marked : (s : ℕ) (c : Core) → is SLEEPING (at c s) ≡ true → is SLEEPING (at (change (onMeta asKilled) s c) s) ≡ true
+marked : (s : ℕ) (c : Core) → is SLEEPING (at c s) ≡ true → is SLEEPING (at (change toKilled s c) s) ≡ true
 unfolding change
-marked s c e = rel-set (λ p y. is SLEEPING y ≡ is SLEEPING p) (λ _. refl) (c .slots) s (onMeta asKilled (at c s)) free refl s ∙ e
+marked s c e = rel-set (λ p y. is SLEEPING y ≡ is SLEEPING p) (λ _. refl) (c .slots) s (toKilled (at c s)) free refl s ∙ e
 
 pub slay-chain : (t : Table) (s : ℕ) → is UNUSED (at (t .core) s) ≡ false → Chain t (onCore (slay s) t)
 unfolding slay onCore
-slay-chain t s u = chained (one (marking s u)) (publishIf-chain (onCore (change (onMeta asKilled) s) t) s _ (marked s (t .core)))
+slay-chain t s u = chained (one (marking s u)) (publishIf-chain (onCore (change toKilled s) t) s _ (marked s (t .core)))
 
 pub slay-calm : (s : ℕ) (c : Core) (j : ℕ) → Calm (at c j) (at (slay s c) j)
 unfolding slay publishIf
 slay-calm s c j = go (is SLEEPING (at c s)) refl
   where
-    mark : Calm (at c j) (at (change (onMeta asKilled) s c) j)
-    mark = unfold change in calm-set (c .slots) s (onMeta asKilled (at c s)) (record { kin = refl; used = refl; zombie = refl; sleeps = λ ch e. e }) j
+    mark : Calm (at c j) (at (change toKilled s c) j)
+    mark = unfold change in calm-set (c .slots) s (toKilled (at c s)) (record { kin = refl; used = refl; zombie = refl; sleeps = λ ch e. e }) j
 
-    go : (b : Bool) → is SLEEPING (at c s) ≡ b → Calm (at c j) (at (publishIf b s (change (onMeta asKilled) s c)) j)
-    go true e = calm-then mark (publish-calm s (change (onMeta asKilled) s c) (marked s c e) j)
+    go : (b : Bool) → is SLEEPING (at c s) ≡ b → Calm (at c j) (at (publishIf b s (change toKilled s c)) j)
+    go true e = calm-then mark (publish-calm s (change toKilled s c) (marked s c e) j)
     go false e = mark
 
 pub slay-harts : (s : ℕ) (c : Core) → slay s c .harts ≡ c .harts
 unfolding slay publishIf publish change
 slay-harts s c = go (is SLEEPING (at c s))
   where
-    go : (b : Bool) → publishIf b s (change (onMeta asKilled) s c) .harts ≡ c .harts
+    go : (b : Bool) → publishIf b s (change toKilled s c) .harts ≡ c .harts
     go true = refl
     go false = refl
 

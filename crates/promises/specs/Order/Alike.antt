@@ -6,7 +6,7 @@ use mathlib.Core.List.{List}
 use lib.ListN.{length, getD, set, length-set}
 use Rattle.promises.specs.Types.{UNUSED, RUNNABLE, SLEEPING, ZOMBIE, Parent, Process, Kin, Start}
 use Rattle.rules.specs.Sizes.{slotCount, pidTop, sizeTop}
-use Rattle.rules.specs.Model.{Core, Books, Table, at, free, taken, is, onMeta, asRunning, asSleeping, asZombie, asKilled, withParent}
+use Rattle.rules.specs.Model.{Core, Books, Table, at, free, taken, is, toRunning, toSleeping, toZombie, toKilled, withParent}
 use Rattle.rules.specs.Moves.{change, publish, hand, idle, yieldOn, sleepOn, zombieOn, publishIf, sleepsOn, wakeOne, wake, wakeOf, resize, reap}
 use Rattle.rules.specs.Calls.{fill, spent}
 use Rattle.promises.specs.Laws.Bools.{and-left}
@@ -80,9 +80,9 @@ pub view : {t u : Table} → Queued (t .core) → Move t u → View t u
 unfolding onCore sleepOn zombieOn yieldOn idle change
 view v (publishing {t} s r) = stirs _ (publish-alikes s (t .core) (quiet (at (t .core) s) r .used))
 view v (yielding {t} h s e) = stirs _ (publish-alikes s (idle h (t .core)) (runs-used h s (t .core) v e))
-view v (sleeping {t} h s ch e _) = stirs _ (alikes-set (t .core .slots) s _ (kept (at (t .core) s) (onMeta (asSleeping ch) (at (t .core) s)) refl refl refl (runs-used h s (t .core) v e)))
-view v (dying {t} h s x e _) = stirs _ (alikes-set (t .core .slots) s _ (kept (at (t .core) s) (onMeta (asZombie x) (at (t .core) s)) refl refl refl (runs-used h s (t .core) v e)))
-view v (marking {t} s u) = stirs _ (alikes-set (t .core .slots) s (onMeta asKilled (at (t .core) s)) (record { pid = refl; group = refl; used = refl }))
+view v (sleeping {t} h s ch e _) = stirs _ (alikes-set (t .core .slots) s _ (kept (at (t .core) s) (toSleeping ch (at (t .core) s)) refl refl refl (runs-used h s (t .core) v e)))
+view v (dying {t} h s x e _) = stirs _ (alikes-set (t .core .slots) s _ (kept (at (t .core) s) (toZombie x (at (t .core) s)) refl refl refl (runs-used h s (t .core) v e)))
+view v (marking {t} s u) = stirs _ (alikes-set (t .core .slots) s (toKilled (at (t .core) s)) (record { pid = refl; group = refl; used = refl }))
 view v (adopting {t} i _) = stirs _ (adopt-alikes (t .books .init) i (t .core))
 view v (spending r) = spends r
 view v (filling s k b d w y _) = fills s k b d w y
@@ -92,4 +92,4 @@ view v (resizing g n j l r e) = resizes g n j l r e
 
 pub hand-view : (t : Table) (h s : ℕ) (rest : List ℕ) → is RUNNABLE (at (t .core) s) ≡ true → View t (onCore (hand h s rest) t)
 unfolding onCore hand change
-hand-view t h s rest e = stirs _ (alikes-set (t .core .slots) s _ (kept (at (t .core) s) (onMeta asRunning (at (t .core) s)) refl refl refl (other RUNNABLE UNUSED (at (t .core) s) e)))
+hand-view t h s rest e = stirs _ (alikes-set (t .core .slots) s _ (kept (at (t .core) s) (toRunning (at (t .core) s)) refl refl refl (other RUNNABLE UNUSED (at (t .core) s) e)))

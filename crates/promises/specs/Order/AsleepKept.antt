@@ -11,7 +11,7 @@ use lib.Dec.{eqb}
 use borrow.Author.Tests.{eqb-true, eqb-false}
 use Rattle.promises.specs.Types.{UNUSED, RUNNABLE, RUNNING, SLEEPING, ZOMBIE, Parent, Nobody, Of, ProcMeta, Process, Kin}
 use Rattle.rules.specs.Sizes.{slotCount, ownChannel, firstDevice}
-use Rattle.rules.specs.Model.{Core, Table, at, free, taken, is, isSlot, stateCode, onMeta, asRunnable, asRunning, asSleeping, asZombie, asKilled, withParent}
+use Rattle.rules.specs.Model.{Core, Table, at, free, taken, is, isSlot, stateCode, toRunnable, toRunning, toSleeping, toZombie, toKilled, withParent}
 use Rattle.rules.specs.Moves.{change, publish, hand, idle, yieldOn, sleepOn, zombieOn, sleepsOn, wake, wakeOf, reap}
 use Rattle.rules.specs.Calls.{childOf, zombieChildOf, threadOf, fill, spent}
 use Rattle.promises.specs.Laws.Bools.{and-left, and-right, and-both, clash}
@@ -120,30 +120,30 @@ module _ (t : Table) (h s : ℕ) (v : Queued (t .core)) (w : Asleep (t .core)) (
   left f = replaced (t .core) (change f s (idle h (t .core))) s (f (at (t .core) s)) refl (runs-range h s (t .core) v e)
 
   abbrev abed : ℕ → Core
-  abed ch = change (onMeta (asSleeping ch)) s (idle h (t .core))
+  abed ch = change (toSleeping ch) s (idle h (t .core))
 
   -- who is no ZOMBIE child before is none afterwards
   was : (ch j : ℕ) → zombieChildOf s (at (t .core) j) ≡ false → zombieChildOf s (at (abed ch) j) ≡ false
   was ch j f = go (eqb j s) refl
     where
       go : (b : Bool) → eqb j s ≡ b → zombieChildOf s (at (abed ch) j) ≡ false
-      go true p = rw (eqb-true j s p, left (onMeta (asSleeping ch)) .here) (not-zombie-child s _ refl)
-      go false p = rw (left (onMeta (asSleeping ch)) .there j (eqb-false j s p)) f
+      go true p = rw (eqb-true j s p, left (toSleeping ch) .here) (not-zombie-child s _ refl)
+      go false p = rw (left (toSleeping ch) .there j (eqb-false j s p)) f
 
   bed-parent : {ch : ℕ} → Bed t s ch → (j : ℕ) → eqb ch (ownChannel s) ≡ true → zombieChildOf s (at (abed ch) j) ≡ false
   bed-parent (device ch d) j f = absurd (below-devices s ch small d (eqb-true ch (ownChannel s) f))
   bed-parent (waiting none) j f = was (ownChannel s) j (none j)
   bed-parent (joining i n _) j f = absurd (n (sym (own-channel (eqb-true (ownChannel i) (ownChannel s) f))))
 
-  bed-joiner : {ch : ℕ} → Bed t s ch → (i : ℕ) → i < slotCount → s ≢ i → eqb ch (ownChannel i) ≡ true → Lives (onMeta (asSleeping ch) (at (t .core) s)) (at (abed ch) i)
+  bed-joiner : {ch : ℕ} → Bed t s ch → (i : ℕ) → i < slotCount → s ≢ i → eqb ch (ownChannel i) ≡ true → Lives (toSleeping ch (at (t .core) s)) (at (abed ch) i)
   bed-joiner (device ch d) i l n f = absurd (below-devices i ch l d (eqb-true ch (ownChannel i) f))
   bed-joiner (waiting _) i l n f = absurd (n (own-channel (eqb-true (ownChannel s) (ownChannel i) f)))
   bed-joiner (joining k n x) i l m f =
-      rw (left (onMeta (asSleeping (ownChannel k))) .there i (λ g. m (sym g)))
+      rw (left (toSleeping (ownChannel k)) .there i (λ g. m (sym g)))
       (lives-same (at (t .core) s) (at (t .core) i) _ (at (t .core) i) refl refl refl refl refl (rw (own-channel (eqb-true (ownChannel k) (ownChannel i) f)) at x))
 
   bed-kept : (ch : ℕ) → Bed t s ch → Asleep (abed ch)
-  bed-kept ch bed = replace-kept (t .core) (abed ch) s (onMeta (asSleeping ch) (at (t .core) s)) (left (onMeta (asSleeping ch))) w
+  bed-kept ch bed = replace-kept (t .core) (abed ch) s (toSleeping ch (at (t .core) s)) (left (toSleeping ch)) w
       (λ j f. bed-parent bed j f)
       (λ b _ _. not-zombie-child b _ refl)
       (λ i l n f. bed-joiner bed i l n f)
@@ -160,9 +160,9 @@ module _ (t : Table) (h s : ℕ) (v : Queued (t .core)) (w : Asleep (t .core)) (
       go true p true q = refl
       go true p false q = absurd (clash e (f .parent q a p))
 
-  death-kept : (x : ℕ) → Farewell t s → Asleep (change (onMeta (asZombie x)) s (idle h (t .core)))
+  death-kept : (x : ℕ) → Farewell t s → Asleep (change (toZombie x) s (idle h (t .core)))
   unfolding zombieChildOf threadOf
-  death-kept x f = replace-kept (t .core) (change (onMeta (asZombie x)) s (idle h (t .core))) s (onMeta (asZombie x) (at (t .core) s)) (left (onMeta (asZombie x))) w
+  death-kept x f = replace-kept (t .core) (change (toZombie x) s (idle h (t .core))) s (toZombie x (at (t .core) s)) (left (toZombie x)) w
       (λ j g. absurd (clash {b = false} g refl))
       (λ a _ g. unfold childOf in orphaned f a g)
       (λ i _ _ g. absurd (clash {b = false} g refl))
@@ -224,24 +224,23 @@ unfolding threadOf
 lives-thread p q l = and-left _ _ (l .kin)
 
 -- slot s is awake now
-awake-kept : (c d : Core) (s : ℕ) (f : ProcMeta → ProcMeta) → d .slots ≡ set (c .slots) s (onMeta f (at c s)) → is UNUSED (at c s) ≡ false → is ZOMBIE (at c s) ≡ false
-    → is UNUSED (onMeta f (at c s)) ≡ false → is ZOMBIE (onMeta f (at c s)) ≡ false → is SLEEPING (onMeta f (at c s)) ≡ false → Asleep c → Asleep d
-awake-kept c d s f e u z v x n w =
-    calm-kept c d (rw e (calm-set (c .slots) s (onMeta f (at c s)) (calm-awake (at c s) (onMeta f (at c s)) refl u z v x n))) w
+awake-kept : (c d : Core) (s : ℕ) (y : Process) → d .slots ≡ set (c .slots) s y → y .kin ≡ at c s .kin → is UNUSED (at c s) ≡ false → is ZOMBIE (at c s) ≡ false
+    → is UNUSED y ≡ false → is ZOMBIE y ≡ false → is SLEEPING y ≡ false → Asleep c → Asleep d
+awake-kept c d s y e k u z v x n w = calm-kept c d (rw e (calm-set (c .slots) s y (calm-awake (at c s) y k u z v x n))) w
 
 pub hand-asleep : (h s : ℕ) (rest : List ℕ) (c : Core) → Asleep c → is RUNNABLE (at c s) ≡ true → Asleep (hand h s rest c)
 unfolding hand change
-hand-asleep h s rest c w e = awake-kept c _ s asRunning refl (other RUNNABLE UNUSED (at c s) e) (other RUNNABLE ZOMBIE (at c s) e) refl refl refl w
+hand-asleep h s rest c w e = awake-kept c _ s (toRunning (at c s)) refl refl (other RUNNABLE UNUSED (at c s) e) (other RUNNABLE ZOMBIE (at c s) e) refl refl refl w
 
 pub move-asleep : {t u : Table} → Queued (t .core) → ((s : ℕ) → Tidy (t .books .init) s (at (t .core) s)) → Asleep (t .core) → Move t u → Asleep (u .core)
 unfolding onCore sleepOn zombieOn yieldOn idle spent fill reap taken free publish change
-move-asleep v o w (publishing {t} s r) = let q = quiet (at (t .core) s) r in awake-kept (t .core) _ s asRunnable refl (q .used) (q .live) refl refl refl w
+move-asleep v o w (publishing {t} s r) = let q = quiet (at (t .core) s) r in awake-kept (t .core) _ s (toRunnable (at (t .core) s)) refl refl (q .used) (q .live) refl refl refl w
 move-asleep v o w (yielding {t} h s e) = let r = runs-running h s (t .core) v e in
-    awake-kept (t .core) _ s asRunnable refl (other RUNNING UNUSED (at (t .core) s) r) (other RUNNING ZOMBIE (at (t .core) s) r) refl refl refl w
+    awake-kept (t .core) _ s (toRunnable (at (t .core) s)) refl refl (other RUNNING UNUSED (at (t .core) s) r) (other RUNNING ZOMBIE (at (t .core) s) r) refl refl refl w
 move-asleep v o w (sleeping {t} h s ch e b) = bed-kept t h s v w e ch b
 move-asleep v o w (dying {t} h s x e f) = death-kept t h s v w e x f
 move-asleep v o w (marking {t} s _) =
-    calm-kept (t .core) _ (calm-set (t .core .slots) s (onMeta asKilled (at (t .core) s)) (record { kin = refl; used = refl; zombie = refl; sleeps = λ ch e. e })) w
+    calm-kept (t .core) _ (calm-set (t .core .slots) s (toKilled (at (t .core) s)) (record { kin = refl; used = refl; zombie = refl; sleeps = λ ch e. e })) w
 move-asleep v o w (adopting {t} i _) = adoption-kept (t .books .init) i (t .core) (v .tall) w
 move-asleep v o w (spending _) = w
 move-asleep v o w (filling {t} s k b d x _ _) =

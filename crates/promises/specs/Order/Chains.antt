@@ -6,7 +6,7 @@ use mathlib.Core.Bool.{true, false}
 use lib.ListN.{length}
 use Rattle.promises.specs.Types.{UNUSED, ALLOCATED, SLEEPING, ZOMBIE, Parent, Nobody, Of, Alone, In, Kin, Start}
 use Rattle.rules.specs.Sizes.{pidTop, nameSize, sizeTop, ownChannel, firstDevice}
-use Rattle.rules.specs.Model.{Core, Books, Table, at, hartAt, is, isSlot, known, slot, taken, onMeta, asKilled, withParent}
+use Rattle.rules.specs.Model.{Core, Books, Table, at, hartAt, is, isSlot, known, slot, taken, toKilled, withParent}
 use Rattle.rules.specs.Moves.{change, publish, idle, yieldOn, sleepOn, zombieOn, sleepsOn, wakeOf, newGroup, openGroup, joinGroup, resize, setInit, reap}
 use Rattle.rules.specs.Calls.{zombieChildOf, fill, spent}
 use Rattle.promises.specs.Order.Sound.{Elder, names, Lives}
@@ -55,7 +55,7 @@ pub data Move : Table → Table → Type 0 where
   yielding : {t : Table} (h s : ℕ) → runs t h s → Move t (onCore (yieldOn h s) t)
   sleeping : {t : Table} (h s ch : ℕ) → runs t h s → Bed t s ch → Move t (onCore (sleepOn h s ch) t)
   dying : {t : Table} (h s x : ℕ) → runs t h s → Farewell t s → Move t (onCore (zombieOn h s x) t)
-  marking : {t : Table} (s : ℕ) → is UNUSED (at (t .core) s) ≡ false → Move t (onCore (change (onMeta asKilled) s) t)
+  marking : {t : Table} (s : ℕ) → is UNUSED (at (t .core) s) ≡ false → Move t (onCore (change toKilled s) t)
   -- a slot that has a parent gets init, and init's channel is woken
   adopting : {t : Table} (i : ℕ) → known (at (t .core) i .kin .parent) ≡ true
       → Move t (onCore (λ c. wakeOf (t .books .init) (change (withParent (t .books .init)) i c)) t)

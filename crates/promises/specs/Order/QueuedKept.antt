@@ -9,7 +9,7 @@ use lib.ListN.{length, getD, set, length-set}
 use lib.Dec.{eqb}
 use Rattle.promises.specs.Types.{UNUSED, RUNNABLE, RUNNING, ZOMBIE, Parent, Nobody, Of, Process}
 use Rattle.rules.specs.Sizes.{slotCount}
-use Rattle.rules.specs.Model.{Core, Table, at, hartAt, free, taken, is, isSlot, slot, onMeta, asRunnable, asRunning, asSleeping, asZombie, asKilled, withParent}
+use Rattle.rules.specs.Model.{Core, Table, at, hartAt, free, taken, is, isSlot, slot, toRunnable, toRunning, toSleeping, toZombie, toKilled, withParent}
 use Rattle.rules.specs.Moves.{handOver, change, publish, hand, idle, yieldOn, sleepOn, zombieOn, publishIf, sleepsOn, wakeOne, wake, wakeOf, toFree, reap}
 use Rattle.rules.specs.Calls.{fill, spent}
 use Rattle.promises.specs.Laws.Bools.{and-left}
@@ -62,7 +62,7 @@ publish-queued s c v k = record {
 }
   where
     y : Process
-    y = onMeta asRunnable (at c s)
+    y = toRunnable (at c s)
 
     range : s < length (c .slots)
     range = used-range (c .slots) s (k .used)
@@ -109,17 +109,17 @@ module _ (h s : ℕ) (c : Core) (v : Queued c) (e : hartAt c h ≡ Of (slot s)) 
       arith,
       tally-append (eqb j) (c .queue) s,
       v .queue j,
-      delta (is RUNNABLE) (c .slots) s (onMeta asRunnable (at c s)) free false true (runs-range h s c v e) not-ready refl j,
+      delta (is RUNNABLE) (c .slots) s (toRunnable (at c s)) free false true (runs-range h s c v e) not-ready refl j,
     );
     harts = λ j. omega (
       arith,
       left j,
       v .harts j,
-      delta (is RUNNING) (c .slots) s (onMeta asRunnable (at c s)) free true false (runs-range h s c v e) (runs-running h s c v e) refl j,
+      delta (is RUNNING) (c .slots) s (toRunnable (at c s)) free true false (runs-range h s c v e) (runs-running h s c v e) refl j,
     );
-    flag = all-set flagged (c .slots) s (onMeta asRunnable (at c s)) free (v .flag) refl;
+    flag = all-set flagged (c .slots) s (toRunnable (at c s)) free (v .flag) refl;
     wide = length-set (c .harts) h Nobody ∙ v .wide;
-    tall = length-set (c .slots) s (onMeta asRunnable (at c s)) ∙ v .tall;
+    tall = length-set (c .slots) s (toRunnable (at c s)) ∙ v .tall;
   }
 
   -- .. and neither waits nor runs any more
@@ -159,7 +159,7 @@ hand-queued h s rest c v q r e = record {
 }
   where
     y : Process
-    y = onMeta asRunning (at c s)
+    y = toRunning (at c s)
 
     ready : is RUNNABLE (at c s) ≡ true
     ready = head-ready s rest c v q
@@ -171,9 +171,9 @@ pub move-queued : {t u : Table} → Queued (t .core) → Move t u → Queued (u 
 unfolding onCore sleepOn zombieOn spent fill reap taken free
 move-queued v (publishing {t} s r) = publish-queued s (t .core) v (quiet (at (t .core) s) r)
 move-queued v (yielding {t} h s e) = yield-queued h s (t .core) v e
-move-queued v (sleeping {t} h s ch e _) = leave-queued h s (t .core) v e (onMeta (asSleeping ch)) refl refl (unflagged h s (t .core) v e)
-move-queued v (dying {t} h s x e _) = leave-queued h s (t .core) v e (onMeta (asZombie x)) refl refl (unflagged h s (t .core) v e)
-move-queued v (marking {t} s _) = change-queued (onMeta asKilled) s (t .core) v (stays (at (t .core) s) _ refl refl refl (v .flag s))
+move-queued v (sleeping {t} h s ch e _) = leave-queued h s (t .core) v e (toSleeping ch) refl refl (unflagged h s (t .core) v e)
+move-queued v (dying {t} h s x e _) = leave-queued h s (t .core) v e (toZombie x) refl refl (unflagged h s (t .core) v e)
+move-queued v (marking {t} s _) = change-queued toKilled s (t .core) v (stays (at (t .core) s) _ refl refl refl (v .flag s))
 move-queued v (adopting {t} i _) =
     wakeOf-queued (t .books .init) _ (parent-queued (t .books .init) i (t .core) v)
 move-queued v (spending _) = v

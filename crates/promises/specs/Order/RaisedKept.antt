@@ -7,8 +7,8 @@ use mathlib.Core.List.{List}
 use lib.ListN.{getD, set}
 use lib.Seq.{getD-set-other}
 use borrow.Author.Tests.{eqb-true}
-use Rattle.promises.specs.Types.{UNUSED, ZOMBIE, Parent, Nobody, ProcMeta, Process, Kin, Start}
-use Rattle.rules.specs.Model.{Core, Books, Table, at, free, taken, is, isSlot, onMeta, asRunnable, asRunning, asSleeping, asZombie, asKilled, withParent}
+use Rattle.promises.specs.Types.{UNUSED, ZOMBIE, Parent, Nobody, Process, Kin, Start}
+use Rattle.rules.specs.Model.{Core, Books, Table, at, free, taken, is, isSlot, toRunnable, toRunning, toSleeping, toZombie, toKilled, withParent}
 use Rattle.rules.specs.Moves.{change, publish, hand, idle, yieldOn, sleepOn, zombieOn, reap}
 use Rattle.rules.specs.Calls.{fill, spent}
 use Rattle.promises.specs.Laws.Bools.{clash}
@@ -28,16 +28,16 @@ like-same p = record { parent = refl; elder = λ o. o }
 like-raised : (c d : Core) → ((j : ℕ) → Like (at c j) (at d j)) → Raised c → Raised d
 like-raised c d k w = record { elder = λ s q e. k q .elder (w .elder s q (rw (← k s .parent) e)) }
 
--- one slot's meta changes, and it stays used and no ZOMBIE, where it was so
-meta-raised : (f : ProcMeta → ProcMeta) (s : ℕ) (c : Core) → (is ZOMBIE (at c s) ≡ false → is ZOMBIE (onMeta f (at c s)) ≡ false) → (is UNUSED (at c s) ≡ false → is UNUSED (onMeta f (at c s)) ≡ false)
-    → Raised c → Raised (change (onMeta f) s c)
+-- one slot changes but for its kin, and it stays used and no ZOMBIE, where it was so
+kin-raised : (g : Process → Process) (s : ℕ) (c : Core) → g (at c s) .kin ≡ at c s .kin → (is ZOMBIE (at c s) ≡ false → is ZOMBIE (g (at c s)) ≡ false) → (is UNUSED (at c s) ≡ false → is UNUSED (g (at c s)) ≡ false)
+    → Raised c → Raised (change g s c)
 unfolding change
-meta-raised f s c z u w = like-raised c (change (onMeta f) s c)
-    (rel-set Like like-same (c .slots) s (onMeta f (at c s)) free (record { parent = refl; elder = λ o. record { used = u (o .used); live = z (o .live); user = o .user } })) w
+kin-raised g s c k z u w = like-raised c (change g s c)
+    (rel-set Like like-same (c .slots) s (g (at c s)) free (record { parent = rw k; elder = λ o. record { used = u (o .used); live = z (o .live); user = rw k (o .user) } })) w
 
 publish-raised : (s : ℕ) (c : Core) → Raised c → Raised (publish s c)
 unfolding publish
-publish-raised s c w = let r = meta-raised asRunnable s c (λ _. refl) (λ _. refl) w in record { elder = r .elder }
+publish-raised s c w = let r = kin-raised toRunnable s c refl (λ _. refl) (λ _. refl) w in record { elder = r .elder }
 
 calm-raised : (c d : Core) → ((j : ℕ) → Calm (at c j) (at d j)) → Raised c → Raised d
 calm-raised c d k = like-raised c d λ j. record {
@@ -104,16 +104,16 @@ adopt-raised init i c o w = record { elder = λ s q e. kept q (go s q e (set-cas
 
 pub hand-raised : (h s : ℕ) (rest : List ℕ) (c : Core) → Raised c → Raised (hand h s rest c)
 unfolding hand
-hand-raised h s rest c w = let r = meta-raised asRunning s c (λ _. refl) (λ _. refl) w in record { elder = r .elder }
+hand-raised h s rest c w = let r = kin-raised toRunning s c refl (λ _. refl) (λ _. refl) w in record { elder = r .elder }
 
 pub move-raised : {t u : Table} → ((s : ℕ) → Tidy (t .books .init) s (at (t .core) s)) → Raised (t .core) → Move t u → Raised (u .core)
 unfolding onCore sleepOn zombieOn yieldOn idle spent reap change
 move-raised y w (publishing {t} s _) = publish-raised s (t .core) w
 move-raised y w (yielding {t} h s _) = publish-raised s (idle h (t .core)) (record { elder = w .elder })
-move-raised y w (sleeping {t} h s ch _ _) = meta-raised (asSleeping ch) s (idle h (t .core)) (λ _. refl) (λ _. refl) (record { elder = w .elder })
-move-raised y w (dying {t} h s x e f) = set-raised (t .core) _ s (onMeta (asZombie x) (at (t .core) s)) refl (f .childless)
+move-raised y w (sleeping {t} h s ch _ _) = kin-raised (toSleeping ch) s (idle h (t .core)) refl (λ _. refl) (λ _. refl) (record { elder = w .elder })
+move-raised y w (dying {t} h s x e f) = set-raised (t .core) _ s (toZombie x (at (t .core) s)) refl (f .childless)
     (λ q i. ((λ z. clash (rw z at i) (f .childless s)), w .elder s q i)) w
-move-raised y w (marking {t} s _) = meta-raised asKilled s (t .core) (λ z. z) (λ z. z) w
+move-raised y w (marking {t} s _) = kin-raised toKilled s (t .core) refl (λ z. z) (λ z. z) w
 move-raised y w (adopting {t} i _) = calm-raised (change (withParent (t .books .init)) i (t .core)) _ (wakeOf-calm (t .books .init) _)
     (adopt-raised (t .books .init) i (t .core) (λ q f. y q .first f .elder) w)
 move-raised y w (spending _) = w

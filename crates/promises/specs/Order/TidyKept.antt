@@ -7,9 +7,9 @@ use lib.ListN.{length, getD, set, length-replicate}
 use lib.Dec.{eqb}
 use lib.Seq.{getD-set-same, getD-set-other}
 use borrow.Author.Tests.{eq-eqb, eqb-true, eqb-false}
-use Rattle.promises.specs.Types.{UNUSED, RUNNABLE, SLEEPING, ZOMBIE, Parent, Nobody, Of, Alone, ProcMeta, Process, Kin, Start}
+use Rattle.promises.specs.Types.{UNUSED, RUNNABLE, SLEEPING, ZOMBIE, Parent, Nobody, Of, Alone, Process, Kin, Start}
 use Rattle.rules.specs.Sizes.{slotCount, nameSize}
-use Rattle.rules.specs.Model.{Core, Books, Table, at, free, taken, is, isSlot, known, slot, onMeta, asRunnable, asRunning, asSleeping, asZombie, asKilled, withParent}
+use Rattle.rules.specs.Model.{Core, Books, Table, at, free, taken, is, isSlot, known, slot, toRunnable, toRunning, toSleeping, toZombie, toKilled, withParent}
 use Rattle.rules.specs.Moves.{change, publish, hand, idle, yieldOn, sleepOn, zombieOn, publishIf, sleepsOn, wakeOne, wake, wakeOf, openGroup, joinGroup, resize, setInit, spend, toFree, reap}
 use Rattle.rules.specs.Calls.{fill, spent}
 use Rattle.promises.specs.Laws.Bools.{and-left, clash}
@@ -24,17 +24,17 @@ use Rattle.promises.specs.Order.Chains.{onCore, Vacant, Birth, ofInit, o
 abbrev AllTidy : Parent → Core → Type 0
 AllTidy init c = (s : ℕ) → Tidy init s (at c s)
 
--- ---- a used slot's meta changes, and it stays used; init must not become ZOMBIE
-tidy-meta : (init : Parent) (s : ℕ) (p : Process) (f : ProcMeta → ProcMeta) → is UNUSED p ≡ false → is UNUSED (onMeta f p) ≡ false
-    → (isSlot s init ≡ true → is ZOMBIE (onMeta f p) ≡ false) → (p .kin .system ≡ true → is ZOMBIE (onMeta f p) ≡ false) → Tidy init s p → Tidy init s (onMeta f p)
-tidy-meta init s p f u v z y w = record {
+-- ---- a used slot becomes another with its kin and start, and stays used; init must not become ZOMBIE
+tidy-kin : (init : Parent) (s : ℕ) (p y : Process) → y .kin ≡ p .kin → y .start ≡ p .start → is UNUSED p ≡ false → is UNUSED y ≡ false
+    → (isSlot s init ≡ true → is ZOMBIE y ≡ false) → (p .kin .system ≡ true → is ZOMBIE y ≡ false) → Tidy init s p → Tidy init s y
+tidy-kin init s p y k b u v z n w = record {
   unused = λ e. absurd (clash e v);
-  name = w .name;
-  lone = λ e. let o = w .lone e in (o .0, o .1, o .2, y e);
-  group = λ _. w .group u;
-  after = λ _. w .after u;
-  child = λ _. w .child u;
-  first = λ e. let o = w .first e in record { elder = record { used = v; live = z e; user = o .elder .user }; leads = o .leads; orphan = o .orphan };
+  name = rw b (w .name);
+  lone = rw k (λ e. let o = w .lone e in (o .0, o .1, o .2, n e));
+  group = rw k (λ _. w .group u);
+  after = rw k (λ _. w .after u);
+  child = rw k (λ _. w .child u);
+  first = λ e. let o = w .first e in record { elder = record { used = v; live = z e; user = rw k (o .elder .user) }; leads = rw k (o .leads); orphan = rw k (o .orphan) };
 }
 
 module _ (init : Parent) (c : Core) (w : AllTidy init c) where
@@ -44,7 +44,7 @@ module _ (init : Parent) (c : Core) (w : AllTidy init c) where
 
   publish-tidy : (s : ℕ) → is UNUSED (at c s) ≡ false → AllTidy init (publish s c)
   unfolding publish change
-  publish-tidy s u = all-set (Tidy init) (c .slots) s (onMeta asRunnable (at c s)) free w (tidy-meta init s (at c s) asRunnable u refl (λ _. refl) (λ _. refl) (w s))
+  publish-tidy s u = all-set (Tidy init) (c .slots) s (toRunnable (at c s)) free w (tidy-kin init s (at c s) _ refl refl u refl (λ _. refl) (λ _. refl) (w s))
 
 wake-tidy : (init : Parent) (ch : ℕ) (c : Core) → AllTidy init c → AllTidy init (wake ch c)
 unfolding wake wakeOne publishIf
@@ -155,18 +155,18 @@ module _ (t : Table) (s n : ℕ) (b : Start) (l : length (b .name) ≡ nameSize)
 
 pub hand-tidy : (init : Parent) (h s : ℕ) (rest : List ℕ) (c : Core) → is RUNNABLE (at c s) ≡ true → AllTidy init c → AllTidy init (hand h s rest c)
 unfolding hand change
-hand-tidy init h s rest c e w = change-tidy init c w (onMeta asRunning) s (tidy-meta init s (at c s) asRunning (other RUNNABLE UNUSED (at c s) e) refl (λ _. refl) (λ _. refl) (w s))
+hand-tidy init h s rest c e w = change-tidy init c w toRunning s (tidy-kin init s (at c s) _ refl refl (other RUNNABLE UNUSED (at c s) e) refl (λ _. refl) (λ _. refl) (w s))
 
 pub move-tidy : {t u : Table} → Queued (t .core) → AllTidy (t .books .init) (t .core) → Move t u → AllTidy (u .books .init) (u .core)
 unfolding onCore sleepOn zombieOn yieldOn idle spent spend reap resize
 move-tidy v w (publishing {t} s r) = publish-tidy (t .books .init) (t .core) w s (quiet (at (t .core) s) r .used)
 move-tidy v w (yielding {t} h s e) = publish-tidy (t .books .init) (idle h (t .core)) w s (runs-used h s (t .core) v e)
-move-tidy v w (sleeping {t} h s ch e _) = change-tidy (t .books .init) (idle h (t .core)) w (onMeta (asSleeping ch)) s
-    (tidy-meta (t .books .init) s (at (t .core) s) (asSleeping ch) (runs-used h s (t .core) v e) refl (λ _. refl) (λ _. refl) (w s))
-move-tidy v w (dying {t} h s x e f) = change-tidy (t .books .init) (idle h (t .core)) w (onMeta (asZombie x)) s
-    (tidy-meta (t .books .init) s (at (t .core) s) (asZombie x) (runs-used h s (t .core) v e) refl (λ i. absurd (clash i (f .mortal))) (λ y. absurd (clash y (f .user))) (w s))
-move-tidy v w (marking {t} s u) = change-tidy (t .books .init) (t .core) w (onMeta asKilled) s
-    (tidy-meta (t .books .init) s (at (t .core) s) asKilled u u (λ i. w s .first i .elder .live) (λ y. w s .lone y .3) (w s))
+move-tidy v w (sleeping {t} h s ch e _) = change-tidy (t .books .init) (idle h (t .core)) w (toSleeping ch) s
+    (tidy-kin (t .books .init) s (at (t .core) s) _ refl refl (runs-used h s (t .core) v e) refl (λ _. refl) (λ _. refl) (w s))
+move-tidy v w (dying {t} h s x e f) = change-tidy (t .books .init) (idle h (t .core)) w (toZombie x) s
+    (tidy-kin (t .books .init) s (at (t .core) s) _ refl refl (runs-used h s (t .core) v e) refl (λ i. absurd (clash i (f .mortal))) (λ y. absurd (clash y (f .user))) (w s))
+move-tidy v w (marking {t} s u) = change-tidy (t .books .init) (t .core) w toKilled s
+    (tidy-kin (t .books .init) s (at (t .core) s) _ refl refl u u (λ i. w s .first i .elder .live) (λ y. w s .lone y .3) (w s))
 move-tidy v w (adopting {t} i k) = wakeOf-tidy (t .books .init) (t .books .init) _
     (change-tidy (t .books .init) (t .core) w (withParent (t .books .init)) i (tidy-adopted (t .books .init) i (at (t .core) i) k (w i)))
 move-tidy v w (spending _) = w

@@ -11,7 +11,7 @@ use lib.Dec.{leb}
 use borrow.Author.Tests.{leb-true, leb-false}
 use Rattle.promises.specs.Types.{UNUSED, SLEEPING, ZOMBIE, Parent, Nobody, Of, Process}
 use Rattle.rules.specs.Sizes.{slotCount, ownChannel}
-use Rattle.rules.specs.Model.{Core, at, free, is, onMeta, asRunnable}
+use Rattle.rules.specs.Model.{Core, at, free, is, toRunnable}
 use Rattle.rules.specs.Moves.{change, publish, sweep, publishIf, sleepsOn, wakeOne, wake, wakeOf}
 use Rattle.promises.specs.Laws.Bools.{and-left, clash}
 use Rattle.promises.specs.Laws.Lists.{rel-set, set-cases}
@@ -45,7 +45,7 @@ calm-set l s y k = rel-set Calm calm-same l s y free k
 
 pub publish-calm : (s : ℕ) (c : Core) → is SLEEPING (at c s) ≡ true → (j : ℕ) → Calm (at c j) (at (publish s c) j)
 unfolding publish change
-publish-calm s c e = calm-set (c .slots) s (onMeta asRunnable (at c s))
+publish-calm s c e = calm-set (c .slots) s (toRunnable (at c s))
     (calm-awake (at c s) _ refl (other SLEEPING UNUSED (at c s) e) (other SLEEPING ZOMBIE (at c s) e) refl refl refl)
 
 pub wake-calm : (ch : ℕ) (c : Core) (j : ℕ) → Calm (at c j) (at (wake ch c) j)
@@ -68,9 +68,9 @@ module _ (ch s : ℕ) (c : Core) where
   stays-awake j e = go (sleepsOn ch (at c s))
     where
       go : (b : Bool) → sleepsOn ch (at (publishIf b s c) j) ≡ false
-      go true = pick (set-cases (c .slots) s (onMeta asRunnable (at c s)) free j)
+      go true = pick (set-cases (c .slots) s (toRunnable (at c s)) free j)
         where
-          pick : ((j ≡ s) × (at (publish s c) j ≡ onMeta asRunnable (at c s))) ⊎ (at (publish s c) j ≡ at c j) → sleepsOn ch (at (publish s c) j) ≡ false
+          pick : ((j ≡ s) × (at (publish s c) j ≡ toRunnable (at c s))) ⊎ (at (publish s c) j ≡ at c j) → sleepsOn ch (at (publish s c) j) ≡ false
           pick (inl f) = ap (sleepsOn ch) (f .1)
           pick (inr f) = ap (sleepsOn ch) f ∙ e
       go false = e
@@ -80,7 +80,7 @@ module _ (ch s : ℕ) (c : Core) where
   now-awake = go (sleepsOn ch (at c s)) refl
     where
       go : (b : Bool) → sleepsOn ch (at c s) ≡ b → sleepsOn ch (at (publishIf b s c) s) ≡ false
-      go true e = ap (sleepsOn ch) (getD-set-same (c .slots) s (onMeta asRunnable (at c s)) free (used-range (c .slots) s (other SLEEPING UNUSED (at c s) (and-left _ _ e))))
+      go true e = ap (sleepsOn ch) (getD-set-same (c .slots) s (toRunnable (at c s)) free (used-range (c .slots) s (other SLEEPING UNUSED (at c s) (and-left _ _ e))))
       go false e = e
 
 below-awake : (ch n : ℕ) (c : Core) (j : ℕ) → j < n → sleepsOn ch (at (sweep (wakeOne ch) n c) j) ≡ false

@@ -1,6 +1,6 @@
 use Prim.Native.Nat.{_-_}
 use Rattle.lines.specs.Grammar.{commandCount}
-use Rattle.lines.proofs.GrammarLaws.{Walk, names-spelled, walk-starts, walk-ends, walk-found, walk-goes}
+use Rattle.lines.proofs.GrammarLaws.{Walk, allNames, names-spelled, walk-starts, walk-ends, walk-found, walk-goes}
 use Rattle.rules.specs.Listing.{bytes}
 use borrow.Author.Needs.{needs}
 use native.Mathlib.Omega.{arith}
@@ -9,17 +9,14 @@ use mathlib.Core.List.{List}
 use Rattle.lines.proofs.grammar.find.Statement.{statement}
 use Rattle.lines.proofs.grammar.find.Tie as tie
 
-abbrev names : List ℕ
-names = bytes " list show fresh boot start spawn system-return fork thread dispatch yield sleep wake kill wait join thread-exit exit grow"
-
 abbrev Inv-loop : tie.InvT-loop
-Inv-loop w at₀ k₀ t7 t8 at k = Walk names w at k
+Inv-loop w at₀ k₀ t7 t8 at k = Walk allNames w at k
 
 abbrev μ-loop : tie.MeasureT-loop
 μ-loop w at₀ k₀ t7 t8 at k = commandCount - k
 
 loop-holds : tie.Need-loop-holds Inv-loop μ-loop
-loop-holds c = walk-starts names (c .before .args .w .now) names-spelled
+loop-holds c = walk-starts allNames (c .before .args .w .now) names-spelled
 
 slice-aggregate-next : tie.Need-slice-aggregate-next Inv-loop μ-loop
 slice-aggregate-next c = search needs
@@ -47,7 +44,7 @@ returns c =
     let loop = c .before .before .before .before .before .before .before .loop in
     let loop-test = c .before .before .before .before .before .before .loop-test in
     let next = c .before .before .before .before .next in
-    walk-found names (entry .args .w .now) (loop .inv) (loop-test .taken) (next .ensures) (c .before .same .ensures) (c .if1 .taken)
+    walk-found allNames (entry .args .w .now) (loop .inv) (loop-test .taken) (next .ensures) (c .before .same .ensures) (c .if1 .taken)
 
 add-k : tie.Need-add-k Inv-loop μ-loop
 add-k c = omega arith
@@ -62,12 +59,12 @@ loop-again c =
     let loop = c .before .before .before .before .before .before .before .loop in
     let loop-test = c .before .before .before .before .before .before .loop-test in
     let next = c .before .before .before .before .next in
-    walk-goes names (entry .args .w .now) (loop .inv) (loop-test .taken) (next .ensures) (c .before .same .ensures) (c .if1 .left)
+    walk-goes allNames (entry .args .w .now) (loop .inv) (loop-test .taken) (next .ensures) (c .before .same .ensures) (c .if1 .left)
 
 returns-2 : tie.Need-returns-2 Inv-loop μ-loop
 returns-2 c =
     let entry = c .before .before .before in
-    walk-ends names (entry .args .w .now) (c .before .loop .inv) (c .loop-test .left)
+    walk-ends allNames (entry .args .w .now) (c .before .loop .inv) (c .loop-test .left)
 
 pub find-spec : {M : Type 1} → statement M
 find-spec =
