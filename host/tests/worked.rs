@@ -25,7 +25,7 @@ fn answers_are(calls: &Path, expected: &Path) {
     assert_eq!(said, expected, "{}", calls.display());
 }
 
-/// Runs A to H and the one for 4224 bytes, then 3,346 calls and what the Rust answered, as the gate runs them.
+/// Runs A to H and the one for 4224 bytes, then 3,417 calls and what the Rust answered, as the gate runs them.
 #[test]
 fn worked_runs_and_the_rusts_answers() {
     let folder = root().join("crates/worked");
