@@ -1,4 +1,6 @@
 // An answer in three words: which it is, and its values.
+#![tactic(auto)]
+
 ghost use Rattle.std.specs.Prelude.{◌≡◌, [], ◌∷◌, ◌+◌, ◌≤◌, length};
 ghost use Rattle.rules.specs.Answers.{number_of};
 ghost use Rattle.buffers.specs.Text.{put};

@@ -1,4 +1,6 @@
 // The table for C and Rust to link, over lent tables: a slice that must hold one.
+#![tactic(auto)]
+
 mod calls; // each call, its answer in three words
 mod tables; // a fresh table, and what is seen of one: the listing, its text, a slot
 

@@ -1,4 +1,6 @@
 // Boot, start, and system threads.
+#![tactic(auto)]
+
 ghost use Rattle.std.specs.Prelude.{◌<◌, length};
 ghost use Rattle.rules.specs.Sizes.{slot_count, hart_count};
 ghost use Rattle.rules.specs.Calls.{booted_in, spawned_in, system_returned_by};

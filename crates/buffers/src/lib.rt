@@ -1,4 +1,6 @@
 // Text in a lent buffer.
+#![tactic(auto)]
+
 ghost use Rattle.std.specs.Prelude.{◌+◌, ◌≤◌, length};
 ghost use Rattle.buffers.specs.Text.{Wrote};
 

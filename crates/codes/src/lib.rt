@@ -1,4 +1,6 @@
 // A call in eight words: which it is, and its arguments.
+#![tactic(auto)]
+
 ghost use Rattle.std.specs.Prelude.{◌≡◌, ◌≤◌, length, get_or};
 ghost use Rattle.rules.specs.Model.{pid};
 ghost use Rattle.steps.specs.declared.Call.TheVariants.{Fork, Thread, Wait, Join, Grow};
@@ -10,7 +12,7 @@ use steps::Call;
 pub const WORDS: usize = 8;
 
 // A call, or none.
-#[derive(Drop)]
+#[derive(Clone, Copy)]
 pub enum Read {
     No,
     Is(Call),

@@ -1,4 +1,6 @@
 // A line answered: what it does to the table, and the text that comes back.
+#![tactic(auto)]
+
 ghost use Rattle.std.specs.Prelude.{◌+◌, ◌≤◌, length};
 ghost use Rattle.rules.specs.declared.Answer.TheVariants.{Done};
 ghost use Rattle.promises.specs.Order.Sound.{Sound};

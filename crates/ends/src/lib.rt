@@ -1,4 +1,6 @@
 // Exit and thread exit.
+#![tactic(auto)]
+
 ghost use Rattle.std.specs.Prelude.{◌≡◌, ◌<◌};
 ghost use Rattle.std.proofs.Math.Option.{none, some};
 ghost use Rattle.rules.specs.Sizes.{slot_count, hart_count};

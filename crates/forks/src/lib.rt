@@ -1,4 +1,6 @@
 // Fork and thread creation.
+#![tactic(auto)]
+
 ghost use Rattle.std.specs.Prelude.{◌≡◌, true, cond, ◌+◌, ◌≤◌, ◌<◌, length};
 ghost use Rattle.rules.specs.Sizes.{slot_count, group_count, address_top, page_size};
 ghost use Rattle.rules.specs.Model.{group_at, slot};

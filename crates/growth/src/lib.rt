@@ -1,4 +1,6 @@
 // Grow: a group's size plus a signed count.
+#![tactic(auto)]
+
 ghost use Rattle.std.specs.Prelude.{◌≡◌, not, ◌&&◌, ◌<◌, ◌≤◌, pos, negsuc, ◌+ℤ◌};
 ghost use Rattle.rules.specs.Sizes.{slot_count, size_top};
 ghost use Rattle.rules.specs.Calls.{within, upward, grown_by};
@@ -16,7 +18,7 @@ use words::{Table, book, slot};
 const SIZE_TOP: u64 = stacks::TRAPFRAME - (Table::SLOTS as u64) * stacks::PAGE;
 
 // A size in the limits, or none.
-#[derive(Drop)]
+#[derive(Clone, Copy)]
 enum Size {
     To(u64),
     Out,

@@ -1,4 +1,8 @@
 // The process table by hand: calls as text on standard input, an answer a line on standard output. docs/LANE.md has the format.
-fn main() {
-    session::run();
+#![tactic(auto)]
+
+use std::io;
+
+fn main(rt: HostRuntime) -> io::Result<()> {
+    session::run(&mut rt.stdin(), &mut io::writer(&rt))
 }

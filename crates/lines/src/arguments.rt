@@ -9,7 +9,7 @@ use crate::{Why, grammar, value, word};
 // The command's number, and nine arguments at most.
 pub const WORDS: usize = 10;
 
-#[derive(Drop)]
+#[derive(Clone, Copy)]
 pub enum Args {
     All,
     Not(Why),

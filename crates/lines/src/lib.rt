@@ -1,4 +1,6 @@
 // What a line says.
+#![tactic(auto)]
+
 ghost use Rattle.std.specs.Prelude.{◌≡◌, ◌≤◌, length, drop};
 ghost use Rattle.lines.specs.Meaning.{word_count, means, command_means, words_of, bits, flags_together, said_by, meaning_of, NameThere};
 ghost use Rattle.lines.specs.Grammar.{first_call};
@@ -15,7 +17,7 @@ mod grammar; // the commands
 mod arguments; // the arguments of a command
 
 // Why a line can't be read.
-#[derive(Drop)]
+#[derive(Clone, Copy)]
 pub enum Why {
     UnknownWord,
     TooFew,
@@ -28,7 +30,7 @@ pub enum Why {
     TooLong,
 }
 
-#[derive(Drop)]
+#[derive(Clone, Copy)]
 pub enum Said {
     Nothing,
     Call(Call),

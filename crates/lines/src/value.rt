@@ -18,7 +18,7 @@ const ROOM: u8 = b'o';
 // 2^63: the counts below 0 are so many.
 const HALF: u64 = 1 << 63;
 
-#[derive(Drop)]
+#[derive(Clone, Copy)]
 pub enum Value {
     Is(u64),
     No(Why),

@@ -2,7 +2,7 @@
 ghost use Rattle.std.specs.Prelude.{◌≡◌, ◌+◌, ◌≤◌, length, drop};
 ghost use Rattle.lines.specs.Words.{front, space_is, same, Cut};
 
-#[derive(Drop)]
+#[derive(Clone, Copy)]
 pub struct Word {
     pub from: usize,
     pub to: usize,

@@ -3,15 +3,12 @@ use Prim.Native.Nat.{ℕ, ◌+◌, ◌<◌, ◌≤◌}
 use native.Mathlib.Omega.{arith}
 use native.Mathlib.Numerals.{add-one}
 use mathlib.Core.Path.{◌≡◌, refl, sym, ap, ◌∙◌}
-use mathlib.Core.Logic.{⊎_elim}
 use mathlib.Core.Bool.{false}
 use mathlib.Core.List.{List, [], ◌∷◌, ◌++◌, append_assoc, append-nil}
 use lib.ListN.{length, take, drop, length-append, take-append-drop}
 use lib.Seq.{take-suc, take_all}
 use lib.Dec.{eqb}
-use types.Run.{OneOf}
-use denote.Enum.Declared.{tag_of}
-use Rattle.rules.specs.contracts.ProcState as state
+use Rattle.std.specs.Prelude.{◌≢◌}
 use Rattle.rules.specs.declared.ProcState.{ProcState}
 use Rattle.rules.specs.declared.ProcState.TheVariants.{UNUSED, ALLOCATED, RUNNABLE, RUNNING, SLEEPING, ZOMBIE}
 use Rattle.rules.specs.declared.ProcMeta.{ProcMeta}
@@ -25,8 +22,8 @@ use Rattle.names.specs.Names.{name_shown}
 use Rattle.listing.specs.Lines.{pid_text, state_labelled, name_labelled, shown_line, line_at, lines_below}
 
 -- what a match that is past UNUSED says
-pub used : (s : ProcState) → OneOf (1 ∷ 2 ∷ 3 ∷ 4 ∷ 5 ∷ []) (tag_of state.the_type s) → eqb 0 (state_code s) ≡ false
-used UNUSED k = absurd (⊎_elim (λ e. omega arith) (⊎_elim (λ e. omega arith) (⊎_elim (λ e. omega arith) (⊎_elim (λ e. omega arith) (λ e. omega arith)))) k)
+pub used : (s : ProcState) → s ≢ UNUSED → eqb 0 (state_code s) ≡ false
+used UNUSED k = absurd (k refl)
 used ALLOCATED k = refl
 used RUNNABLE k = refl
 used RUNNING k = refl

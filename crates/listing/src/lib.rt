@@ -1,4 +1,6 @@
 // The listing of the table: its length, and its text in a lent buffer.
+#![tactic(auto)]
+
 ghost use Rattle.std.specs.Prelude.{◌≡◌, ◌+◌, ◌≤◌, length};
 ghost use Rattle.rules.specs.Listing.{listing, room_for, listed_part, listed_buffer};
 ghost use Rattle.words.specs.Reading.{table_of};

@@ -1,4 +1,6 @@
 // The scheduler's moves that calls are made of. Each is a move of the rules, by its contract, and asks only for what it needs.
+#![tactic(auto)]
+
 ghost use Rattle.std.specs.Prelude.{◌≡◌, ◌<◌, length};
 ghost use Rattle.rules.specs.Sizes.{slot_count, hart_count, own_channel};
 ghost use Rattle.rules.specs.Moves.{publish, idle, hand, yield_on, sleep_on, zombie_on};

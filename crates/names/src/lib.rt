@@ -1,11 +1,13 @@
 // A name as the two words that a slot keeps of it, and out of them.
+#![tactic(auto)]
+
 ghost use Rattle.std.specs.Prelude.{◌≡◌, ◌++◌, ◌+◌, ◌≤◌, get_or};
 ghost use Rattle.rules.specs.Calls.{padded};
 ghost use Rattle.words.specs.Reading.{tab, bytes_of};
 
 pub mod shown; // a name as the listing shows it
 
-#[derive(Drop)]
+#[derive(Clone, Copy)]
 pub struct NameWords {
     pub low: u64,
     pub high: u64,

@@ -1,4 +1,6 @@
 // What a user of the table may ask without changing it. A slot, group or hart that the table does not have is as a free one.
+#![tactic(auto)]
+
 ghost use Rattle.std.specs.Prelude.{◌≡◌, cond, ◌≤◌, length, get_or, ltb};
 ghost use Rattle.rules.specs.declared.Parent.TheVariants.{Nobody, Of};
 ghost use Rattle.rules.specs.Sizes.{slot_count};

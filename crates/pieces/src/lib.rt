@@ -1,4 +1,6 @@
 // The pieces of a text.
+#![tactic(auto)]
+
 ghost use Rattle.std.specs.Prelude.{◌≡◌, [], ◌∷◌, ◌++◌, ◌+◌, ◌*◌, ◌/◌, ◌%◌, ◌<◌, ◌≤◌, length};
 ghost use Rattle.rules.specs.Listing.{digits};
 ghost use Rattle.buffers.specs.Text.{Wrote};

@@ -1,1 +1,2 @@
 // What holds of every run of the rules. Theorems only: see specs/.
+#![tactic(auto)]

@@ -1,1 +1,2 @@
 // The recorded answers of the Rust, against the definitions. Theorems only: see specs/.
+#![tactic(auto)]

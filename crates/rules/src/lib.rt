@@ -1,14 +1,15 @@
 // The types that the rules and the code share, under the Rust's names where they carry over.
+#![tactic(auto)]
 
 // A process or thread number. Never given twice.
-#[derive(Drop)]
+#[derive(Clone, Copy)]
 pub struct Pid(pub u64);
 
 // A place in the table.
-#[derive(Drop)]
+#[derive(Clone, Copy)]
 pub struct Slot(pub usize);
 
-#[derive(Drop)]
+#[derive(Clone, Copy)]
 pub enum ProcState {
     UNUSED,
     ALLOCATED,
@@ -19,20 +20,20 @@ pub enum ProcState {
 }
 
 // None or a slot: a parent, and likewise what a hart runs and where init is.
-#[derive(Drop)]
+#[derive(Clone, Copy)]
 pub enum Parent {
     Nobody,
     Of(Slot),
 }
 
 // None or a group.
-#[derive(Drop)]
+#[derive(Clone, Copy)]
 pub enum Member {
     Alone,
     In(usize),
 }
 
-#[derive(Drop)]
+#[derive(Clone, Copy)]
 pub struct ProcMeta {
     pub state: ProcState,
     pub channel: u64,
@@ -43,7 +44,7 @@ pub struct ProcMeta {
 }
 
 // Of the Rust's ProcData: to whom the slot belongs.
-#[derive(Drop)]
+#[derive(Clone, Copy)]
 pub struct Kin {
     pub group: Member,
     pub parent: Parent,
@@ -52,7 +53,7 @@ pub struct Kin {
 }
 
 // Of the Rust's ProcData, what a slot is born with. sp: first stack pointer; entry, top, arg and ret: the start record.
-#[derive(Drop)]
+#[derive(Clone, Copy)]
 pub struct Start {
     pub trapframe: u64,
     pub sp: u64,
@@ -63,7 +64,7 @@ pub struct Start {
     pub name: [u8; 16],
 }
 
-#[derive(Drop)]
+#[derive(Clone, Copy)]
 pub struct Process {
     pub meta: ProcMeta,
     pub kin: Kin,
@@ -71,14 +72,14 @@ pub struct Process {
 }
 
 // The Rust's UserAddressSpace, with the count of its Arc.
-#[derive(Drop)]
+#[derive(Clone, Copy)]
 pub struct Group {
     pub size: u64,
     pub count: u64,
 }
 
 // What a caller of wait or join says of the status.
-#[derive(Drop)]
+#[derive(Clone, Copy)]
 pub enum Wish {
     NotWanted,
     Writable,
@@ -86,7 +87,7 @@ pub enum Wish {
 }
 
 // What create_user_thread is asked for.
-#[derive(Drop)]
+#[derive(Clone, Copy)]
 pub struct ThreadAsk {
     pub entry: u64,
     pub arg: u64,
@@ -95,7 +96,7 @@ pub struct ThreadAsk {
 }
 
 // The host's answers on a thread's addresses: is it mapped? `top` speaks of the stack top - 1.
-#[derive(Drop)]
+#[derive(Clone, Copy)]
 pub struct Mapped {
     pub entry: bool,
     pub ret: bool,
@@ -104,7 +105,7 @@ pub struct Mapped {
 }
 
 // Why a call was refused. `number_of` in specs/Answers.antt gives each its number.
-#[derive(Drop)]
+#[derive(Clone, Copy)]
 pub enum Refusal {
     NoSuchHart,
     HartIdle,
@@ -126,7 +127,7 @@ pub enum Refusal {
     NoMemory,
 }
 
-#[derive(Drop)]
+#[derive(Clone, Copy)]
 pub enum Answer {
     Done,
     Made(Pid),
@@ -138,7 +139,7 @@ pub enum Answer {
 }
 
 // The answer to whether the listing fits a room: the text's length, or why not.
-#[derive(Drop)]
+#[derive(Clone, Copy)]
 pub enum Room {
     Fits(usize),
     Short(Refusal),

@@ -1,4 +1,6 @@
 // Many calls in one: a lent list of words holds the calls, another gets the answers.
+#![tactic(auto)]
+
 ghost use Rattle.promises.specs.Order.Sound.{Sound};
 ghost use Rattle.words.specs.Reading.{table_of};
 ghost use Rattle.runs.specs.Ran.{calls_within, Ran};

@@ -1,4 +1,6 @@
 // The scans: the lowest slot that passes a test, and the lowest group with nobody in it.
+#![tactic(auto)]
+
 ghost use Rattle.std.specs.Prelude.{◌≡◌, ◌<◌};
 ghost use Rattle.rules.specs.Sizes.{slot_count, group_count};
 ghost use Rattle.rules.specs.Model.{at, is};
@@ -11,7 +13,7 @@ use rules::{Member, Parent, Pid, ProcState};
 use words::{Table, book, slot, word};
 
 // A test on a slot, as the rules have it.
-#[derive(Drop)]
+#[derive(Clone, Copy)]
 pub enum Test {
     Unused,
     HasPid(Pid),
@@ -21,7 +23,7 @@ pub enum Test {
     ThreadNamed(Pid, Member),
 }
 
-#[derive(Drop)]
+#[derive(Clone, Copy)]
 pub enum Found {
     At(usize),
     Nothing,

@@ -1,4 +1,6 @@
 // Scheduling: dispatch, yield, sleep, wake, kill.
+#![tactic(auto)]
+
 ghost use Rattle.rules.specs.Runs.{dispatch, yield, sleep, wakeup, kill};
 ghost use Rattle.promises.specs.Order.Sound.{Sound};
 ghost use Rattle.promises.specs.Did.{Did};

@@ -2,6 +2,8 @@
 use Rattle.std.specs.Prelude.{◌≡◌, ℕ, ◌+◌, cond, List, nat_le}
 use Rattle.desk.specs.Desk.{desk_top}
 use Rattle.session.specs.declared.talk.Place.{Place}
+use Rattle.promises.specs.Order.Sound.{Sound}
+use Rattle.words.specs.Reading.{table_of}
 use Rattle.session.specs.Talk.{Seat, hears}
 use Rattle.session.specs.Places.{seat_of, Ready}
 use Rattle.session.specs.Rounds.{written}
@@ -26,3 +28,10 @@ pub record Heard (s : Seat) (input t line name out : List ℕ) (p : Place) : Typ
 pub record HeardSome (s : Seat) (t line name out : List ℕ) (p : Place) : Type 0 where
   pub input : List ℕ
   pub heard : Heard s input t line name out p
+
+-- a read or a write failed, behind some input that was heard; no answer to it is promised, and the table is in order
+pub record Left (s : Seat) (t line out : List ℕ) : Type 0 where
+  pub input : List ℕ
+  pub place : Place
+  pub seat : written (seat_of t line out place) ≡ written (hears s input)
+  pub sound : Sound (table_of t)

@@ -10,7 +10,7 @@ use words::Table;
 pub const LINE: usize = 256;
 
 // How long the line is so far (LINE: too long), the number of the last one, and how much waits to be written.
-#[derive(Drop)]
+#[derive(Clone, Copy)]
 pub struct Place {
     pub len: usize,
     pub number: u64,
@@ -18,7 +18,7 @@ pub struct Place {
 }
 
 // How many bytes of a piece were heard.
-#[derive(Drop)]
+#[derive(Clone, Copy)]
 pub struct Taken {
     pub place: Place,
     pub used: usize,

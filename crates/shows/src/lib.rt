@@ -1,4 +1,6 @@
 // The table as text in a lent buffer. Each function requires room for the longest text, and returns the place after it.
+#![tactic(auto)]
+
 ghost use Rattle.std.specs.Prelude.{◌+◌, ◌*◌, ◌<◌, ◌≤◌, length};
 ghost use Rattle.rules.specs.Sizes.{slot_count};
 ghost use Rattle.promises.specs.Order.Sound.{Sound};

@@ -1,4 +1,6 @@
 // What a host reads of a table: an answer and a room in words, and the table's text in a lent buffer.
+#![tactic(auto)]
+
 ghost use Rattle.std.specs.Prelude.{◌≡◌, length};
 ghost use Rattle.promises.specs.Order.Sound.{Sound};
 ghost use Rattle.words.specs.Reading.{table_of};

@@ -1,4 +1,6 @@
 // The addresses that go with a slot.
+#![tactic(auto)]
+
 ghost use Rattle.std.specs.Prelude.{◌≡◌, ◌-◌, ◌<◌};
 ghost use Rattle.rules.specs.Sizes.{slot_count, trampoline, trapframe, kernel_stack, user_sp, system_sp, thread_trapframe};
 

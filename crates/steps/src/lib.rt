@@ -1,4 +1,6 @@
 // Any call, by value.
+#![tactic(auto)]
+
 ghost use Rattle.std.specs.Prelude.{◌≡◌, ◌≤◌};
 ghost use Rattle.rules.specs.Runs.{spawn};
 ghost use Rattle.promises.specs.Order.Sound.{Sound};
@@ -10,7 +12,7 @@ use rules::{Answer, Mapped, Pid, ThreadAsk, Wish};
 use words::Table;
 
 // A call by value. A name is a piece of a lent text: where it starts, and how long it is.
-#[derive(Drop)]
+#[derive(Clone, Copy)]
 pub enum Call {
     Boot,
     Start,

@@ -1,4 +1,6 @@
 // The caller, a slot taken and filled, groups, a slot freed.
+#![tactic(auto)]
+
 ghost use Rattle.std.specs.Prelude.{◌≡◌, ◌<◌};
 ghost use Rattle.rules.specs.Sizes.{slot_count, group_count};
 ghost use Rattle.rules.specs.Model.{taken};
@@ -16,7 +18,7 @@ use words::slot::StartWords;
 use words::{Table, book, slot};
 
 // A slot, the caller's or one just taken, or why there is none.
-#[derive(Drop)]
+#[derive(Clone, Copy)]
 pub enum Got {
     No(Refusal),
     Is(usize),

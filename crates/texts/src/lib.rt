@@ -1,4 +1,6 @@
 // An answer as text in a lent buffer. The function requires room for the longest, and returns the place after it.
+#![tactic(auto)]
+
 ghost use Rattle.std.specs.Prelude.{◌+◌, ◌≤◌, length};
 ghost use Rattle.buffers.specs.Text.{Wrote};
 ghost use Rattle.texts.specs.Texts.{answer_text, answer_top};

@@ -1,4 +1,6 @@
 // Wait and join: a ZOMBIE is reaped, or the caller sleeps until there is one.
+#![tactic(auto)]
+
 ghost use Rattle.std.specs.Prelude.{◌≡◌, ◌<◌};
 ghost use Rattle.std.proofs.Math.Option.{none, some};
 ghost use Rattle.rules.specs.Sizes.{slot_count, hart_count};

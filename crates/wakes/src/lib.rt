@@ -1,4 +1,6 @@
 // Wake, kill and reparent: scans that publish.
+#![tactic(auto)]
+
 ghost use Rattle.std.specs.Prelude.{◌≡◌, ◌<◌};
 ghost use Rattle.rules.specs.Sizes.{slot_count};
 ghost use Rattle.rules.specs.Model.{with_parent};

@@ -1,5 +1,7 @@
 // The process table in place: an array of words, a column for each field. Contracts speak of the table that the words hold,
 // `table_of`; where a word stands is known in this crate alone.
+#![tactic(auto)]
+
 ghost use Rattle.std.specs.Prelude.{◌≡◌, ◌+◌, ◌<◌, length, slice_set};
 ghost use Rattle.rules.specs.Sizes.{slot_count, hart_count};
 ghost use Rattle.rules.specs.Model.{fresh};

@@ -9,7 +9,7 @@ ghost use Rattle.words.specs.Effects.{enqueue, Popped, pushed, popped};
 use crate::{Table, get, get_cell, put, put_cell, slot};
 
 // A ring: the cells of its two counts, and the column of its places.
-#[derive(Drop)]
+#[derive(Clone, Copy)]
 pub struct RingAt {
     pub head: usize,
     pub tail: usize,

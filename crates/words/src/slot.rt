@@ -50,7 +50,7 @@ const NAME1_COLUMN: usize = 17;
 pub const COLUMNS: usize = 18;
 
 // The Start of a slot as the words have it: the trapframe as its distance below TRAPFRAME, the name in two words.
-#[derive(Drop)]
+#[derive(Clone, Copy)]
 pub struct StartWords {
     pub below: u64,
     pub sp: u64,

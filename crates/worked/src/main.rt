@@ -1,5 +1,9 @@
 // Document 01's worked runs, each from a fresh table, and behind them the recorded sample: `stdin` has the calls, `stdout` what
 // the document says and what the Rust answered. oracle/sample.sh makes both.
-fn main() {
-    session::run();
+#![tactic(auto)]
+
+use std::io;
+
+fn main(rt: HostRuntime) -> io::Result<()> {
+    session::run(&mut rt.stdin(), &mut io::writer(&rt))
 }

@@ -1,0 +1,18 @@
+use Rattle.ends.proofs.EndLaws.{exit-no, exit-is}
+use Rattle.promises.specs.Did.{did}
+use Rattle.words.specs.Reading.{table_of}
+use Rattle.std.proofs.Common.{sym, subst, ◌∙◌}
+use Rattle.taking.specs.Parts.{InHart}
+use Rattle.ends.proofs.exit.Goals as goal
+
+pub exit_by-requires : goal.exit_by-requires
+exit_by-requires c =
+    let k = subst (InHart _) c.in-Is.is c.caller_on-c.ensures.1 in (k.1, k.0, c.requires)
+
+pub returns-in-No : goal.returns-in-No
+returns-in-No c =
+    did c.requires (exit-no (table_of c.args.t.now) _ _ _ (sym c.in-No.is ∙ c.caller_on-c.ensures.0))
+
+pub returns-in-Is : goal.returns-in-Is
+returns-in-Is c =
+    did c.requires (exit-is (table_of c.args.t.now) _ _ (sym c.in-Is.is ∙ c.caller_on-c.ensures.0) c.exit_by.ensures)

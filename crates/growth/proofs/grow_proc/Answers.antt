@@ -1,0 +1,18 @@
+use Rattle.growth.proofs.GrowLaws.{grow-no, grow-is}
+use Rattle.words.specs.Reading.{table_of}
+use Rattle.std.proofs.Common.{to_z-of_z, sym, subst, ◌∙◌}
+use Rattle.promises.specs.Did.{did}
+use Rattle.taking.specs.Parts.{InHart}
+use Rattle.growth.proofs.grow_proc.Goals as goal
+
+pub grow_by-requires : goal.grow_by-requires
+grow_by-requires c =
+    ((subst (InHart _) c.in-Is.is c.caller_on-c.ensures.1).0, c.requires)
+
+pub returns-in-No : goal.returns-in-No
+returns-in-No c =
+    did c.requires (grow-no (table_of c.args.t.now) _ _ _ _ (sym c.in-No.is ∙ c.caller_on-c.ensures.0))
+
+pub returns-in-Is : goal.returns-in-Is
+returns-in-Is c =
+    did c.requires (grow-is (table_of c.args.t.now) _ _ _ (to_z-of_z c.ranges.count) (sym c.in-Is.is ∙ c.caller_on-c.ensures.0) c.grow_by.ensures)

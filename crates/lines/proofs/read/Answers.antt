@@ -1,0 +1,29 @@
+use Rattle.lines.proofs.MeaningLaws.{told-by, name-there, told-all, told-not, empty-passed, hash-passed, cut-first, no-command, a-command}
+use Rattle.lines.specs.declared.arguments.Args.TheVariants.{All, Not}
+use Rattle.std.proofs.Common.{◌∙◌, arith}
+use Rattle.lines.proofs.ArgumentLaws.{cut-length}
+use Rattle.lines.proofs.read.Goals as goal
+
+pub returns-then-from-to : goal.returns-then-from-to
+returns-then-from-to c =
+    empty-passed c.args.line.now (omega (arith, cut-length c.next-c.ensures, c.if-from-to.true))
+
+pub returns-then-line-from-eq35 : goal.returns-then-line-from-eq35
+returns-then-line-from-eq35 c =
+    hash-passed c.args.line.now (cut-first c.next-c.ensures c.if-from-to.false ∙ c.if-line-from-eq35.true)
+
+pub returns-then-k-ge-COMMANDS : goal.returns-then-k-ge-COMMANDS
+returns-then-k-ge-COMMANDS c =
+    no-command c.next-c.ensures c.find-k.ensures c.if-from-to.false c.if-line-from-eq35.false c.if-k-ge-COMMANDS.true
+
+pub command-requires : goal.command-requires
+command-requires c =
+    (c.next-c.ensures.ends, omega (arith, c.read.auto.w), c.requires, name-there _ _ _ _ (told-by _ _ _ c.read.result All (cc) c.read.ensures))
+
+pub returns-in-All : goal.returns-in-All
+returns-in-All c =
+    c.command.ensures ∙ told-all _ _ _ _ (told-by _ _ _ c.read.result All (cc) c.read.ensures) ∙ a-command c.next-c.ensures c.find-k.ensures c.if-from-to.false c.if-line-from-eq35.false c.if-k-ge-COMMANDS.false
+
+pub returns-in-Not : goal.returns-in-Not
+returns-in-Not c =
+    told-not _ _ _ _ _ (told-by _ _ _ c.read.result (Not _) c.in-Not.is c.read.ensures) ∙ a-command c.next-c.ensures c.find-k.ensures c.if-from-to.false c.if-line-from-eq35.false c.if-k-ge-COMMANDS.false

@@ -1,0 +1,12 @@
+use Rattle.std.proofs.Common.{arith}
+use Rattle.rules.specs.Sizes.{group_count}
+use Rattle.words.proofs.BookLaws.{set-count-law}
+use Rattle.words.proofs.book.set_count.Goals as goal
+
+pub put-requires : goal.put-requires
+unfolding group_count
+put-requires c = omega arith
+
+pub returns : goal.returns
+returns c =
+    rw c.put.ensures.0 (set-count-law c.args.t.now c.put.ensures.1 c.args.g c.requires c.args.count)
