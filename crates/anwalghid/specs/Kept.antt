@@ -11,8 +11,10 @@ use Rattle.rules.specs.Sizes.{hart_count}
 use Rattle.rules.specs.Model.{Table, fresh, hart_at, slot}
 use Rattle.rules.specs.Answers.{values_of}
 use Rattle.rules.specs.Runs.{Call, dispatch, step, run, run_by}
-use Rattle.promises.specs.FirstOut.{Turn, FirstInFirstOut, handed_out, first-in-first-out}
-use Rattle.promises.specs.Demand3.{DispatchRule, dispatch-granted}
+use Rattle.promises.specs.FirstOut.{Turn, FirstInFirstOut, handed_out}
+use Rattle.promises.proofs.FirstOut.{first-in-first-out}
+use Rattle.promises.specs.Demand3.{DispatchRule}
+use Rattle.promises.proofs.Demand3.{dispatch-granted}
 use Rattle.promises.specs.Reached.{reached}
 use Rattle.words.specs.Reading.{table_of}
 use Rattle.answers.specs.Words.{word_of, coded}

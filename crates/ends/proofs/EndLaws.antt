@@ -17,10 +17,10 @@ use Rattle.rules.specs.Runs.{step, exit, thread_exit}
 use Rattle.promises.specs.Laws.Bools.{or_yes}
 use Rattle.promises.specs.Laws.Scans.{sweep-keeps}
 use Rattle.promises.specs.Order.Sound.{Queued, Sound}
-use Rattle.promises.specs.Order.QueuedKept.{hand_over-queued}
-use Rattle.promises.specs.Order.Kept.{chain-sound}
+use Rattle.promises.proofs.Order.QueuedKept.{hand_over-queued}
+use Rattle.promises.proofs.Order.Kept.{chain-sound}
 use Rattle.promises.specs.Order.Chains.{on_core}
-use Rattle.promises.specs.Calls.Walks.{reap_threads-chain}
+use Rattle.promises.proofs.Calls.Walks.{reap_threads-chain}
 use Rattle.promises.specs.Did.{Makes}
 use Rattle.promises.specs.ThreadExit.{exit-by-leader}
 use Rattle.scans.specs.declared.Found.{Found}

@@ -8,13 +8,10 @@ pub mod FirstOut
 pub mod Demand3
 pub mod Panics
 pub mod Places
-pub mod Parents
 pub mod Published
 pub mod Ledger
-pub mod Refused
 pub mod ThreadExit
 pub mod ListingBound
-pub mod Listed
 pub mod WorkedRuns
 pub mod MoreRuns
 pub mod EmptyPrograms

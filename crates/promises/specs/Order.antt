@@ -6,10 +6,7 @@ pub mod Wakes
 pub mod Chains
 pub mod Books
 pub mod Alike
-pub mod QueuedKept
 pub mod NumberedKept
 pub mod CountedKept
-pub mod TidyKept
-pub mod AsleepKept
 pub mod RaisedKept
 pub mod Kept

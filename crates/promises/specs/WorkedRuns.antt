@@ -1,11 +1,10 @@
 -- Document 01's starred worked runs, A to H: one list, one claim.
-use Rattle.std.specs.Prelude.{ℕ, ◌≡◌, refl, true, List, [], ◌∷◌, ◌++◌, replicate, ℤ, pos, negsuc}
+use Rattle.std.specs.Prelude.{ℕ, true, List, [], ◌∷◌, ◌++◌, replicate, ℤ, pos, negsuc}
 use Rattle.promises.specs.Types.{NotWanted, Writable, TableFull, BadAddress, NoneSuch, SizeOutOfLimits, NoRoom, Answer, Done, Made, Handed, Reaped, Joined, Blocked, Refused, Fits, Short}
 use Rattle.rules.specs.Model.{pid, slot}
 use Rattle.rules.specs.Listing.{bytes}
 use Rattle.rules.specs.Runs.{fork, dispatch, kill, wait, join, exit, thread_exit, grow}
-use Rattle.rules.specs.Open.{everything}
-use Rattle.rules.specs.Worked.{Case, up, ask, count_from, same_int, same_by, same_answer, right_looks, right, wrong}
+use Rattle.rules.specs.Worked.{Case, up, ask, count_from}
 
 -- init makes a thread, which exits with x on hart 1, and joins it
 abbrev joining : ℕ → ℤ → Case
@@ -64,7 +63,3 @@ worked_runs =
       looks = [];
     }
     ∷ []
-
-pub worked-runs-right : wrong 0 worked_runs ≡ []
-unfolding everything worked_runs count_from wrong right right_looks same_by same_answer same_int
-worked-runs-right = refl

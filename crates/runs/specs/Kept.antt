@@ -4,8 +4,10 @@ use Rattle.std.proofs.Common.{sym, ◌∙◌, subst}
 use Rattle.std.proofs.Math.ListN.{length}
 use Rattle.rules.specs.Model.{Table, fresh}
 use Rattle.rules.specs.Runs.{Call, run}
-use Rattle.promises.specs.Demand3.{Demand3, sound-demand}
-use Rattle.promises.specs.FirstOut.{Turn, FirstInFirstOut, handed_out, first-in-first-out}
+use Rattle.promises.specs.Demand3.{Demand3}
+use Rattle.promises.proofs.Demand3.{sound-demand}
+use Rattle.promises.specs.FirstOut.{Turn, FirstInFirstOut, handed_out}
+use Rattle.promises.proofs.FirstOut.{first-in-first-out}
 use Rattle.promises.specs.Reached.{reached}
 use Rattle.runs.specs.Ran.{Ran}
 

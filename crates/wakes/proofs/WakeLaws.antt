@@ -19,7 +19,7 @@ use Rattle.promises.specs.Order.Sound.{Queued}
 use Rattle.promises.specs.Order.States.{other}
 use Rattle.promises.specs.Order.Room.{queue-room}
 use Rattle.promises.specs.Order.Chains.{on_core}
-use Rattle.promises.specs.Order.QueuedKept.{parent-queued}
+use Rattle.promises.proofs.Order.QueuedKept.{parent-queued}
 
 -- a sleeper finds room in the queue
 pub room-asleep : (c : Core) (s : ℕ) → Queued c → is SLEEPING (at c s) ≡ true → length c.queue < slot_count

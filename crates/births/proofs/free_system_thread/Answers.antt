@@ -1,5 +1,5 @@
 use Rattle.births.proofs.BirthLaws.{return-no, return-by}
-use Rattle.promises.specs.Did.{did}
+use Rattle.promises.proofs.Did.{did}
 use Rattle.words.specs.Reading.{table_of}
 use Rattle.std.proofs.Common.{sym, subst, ◌∙◌}
 use Rattle.taking.specs.Parts.{InHart}

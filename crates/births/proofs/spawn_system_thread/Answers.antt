@@ -1,5 +1,5 @@
 use Rattle.births.proofs.BirthLaws.{spawn-long, spawn-no, spawn-is}
-use Rattle.promises.specs.Did.{did}
+use Rattle.promises.proofs.Did.{did}
 use Rattle.words.specs.Reading.{table_of}
 use Rattle.std.proofs.Common.{sym, subst, ◌∙◌, arith}
 use Rattle.taking.specs.Parts.{InSlots}

@@ -1,5 +1,5 @@
 use Rattle.births.proofs.BirthLaws.{allocated-room, start_none, start-late, start_is}
-use Rattle.promises.specs.Did.{did}
+use Rattle.promises.proofs.Did.{did}
 use Rattle.words.specs.Reading.{table_of, InTable}
 use Rattle.std.proofs.Common.{sym, subst, ◌∙◌}
 use Rattle.births.proofs.start_init_process.Goals as goal

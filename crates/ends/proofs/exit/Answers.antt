@@ -1,5 +1,5 @@
 use Rattle.ends.proofs.EndLaws.{exit-no, exit-is}
-use Rattle.promises.specs.Did.{did}
+use Rattle.promises.proofs.Did.{did}
 use Rattle.words.specs.Reading.{table_of}
 use Rattle.std.proofs.Common.{sym, subst, ◌∙◌}
 use Rattle.taking.specs.Parts.{InHart}

@@ -1,7 +1,7 @@
 use Rattle.growth.proofs.GrowLaws.{grow-no, grow-is}
 use Rattle.words.specs.Reading.{table_of}
 use Rattle.std.proofs.Common.{to_z-of_z, sym, subst, ◌∙◌}
-use Rattle.promises.specs.Did.{did}
+use Rattle.promises.proofs.Did.{did}
 use Rattle.taking.specs.Parts.{InHart}
 use Rattle.growth.proofs.grow_proc.Goals as goal
 

@@ -1,5 +1,5 @@
 use Rattle.sched.proofs.SchedLaws.{dispatch-none, dispatch-busy, dispatch-empty, dispatch-is}
-use Rattle.promises.specs.Did.{did}
+use Rattle.promises.proofs.Did.{did}
 use Rattle.words.specs.Reading.{table_of}
 use Rattle.std.proofs.Common.{arith, sym, ◌∙◌}
 use Rattle.rules.specs.Sizes.{hart_count}

@@ -1,5 +1,5 @@
 use Rattle.sched.proofs.SchedLaws.{sleep-no, sleep-low, sleep-is}
-use Rattle.promises.specs.Did.{did}
+use Rattle.promises.proofs.Did.{did}
 use Rattle.words.specs.Reading.{table_of}
 use Rattle.std.proofs.Common.{sym, subst, ◌∙◌, arith}
 use Rattle.taking.specs.Parts.{InHart}

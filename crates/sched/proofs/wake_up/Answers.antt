@@ -1,5 +1,5 @@
 use Rattle.sched.proofs.SchedLaws.{wake-low, wake-is}
-use Rattle.promises.specs.Did.{did}
+use Rattle.promises.proofs.Did.{did}
 use Rattle.words.specs.Reading.{table_of}
 use Rattle.rules.specs.Sizes.{slot_count, first_device}
 use Rattle.sched.proofs.wake_up.Goals as goal

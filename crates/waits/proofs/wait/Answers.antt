@@ -1,6 +1,6 @@
 use Rattle.scans.specs.declared.Found.TheVariants.{Nothing}
 use Rattle.waits.proofs.WaitLaws.{wait-no, wait-is}
-use Rattle.promises.specs.Did.{did}
+use Rattle.promises.proofs.Did.{did}
 use Rattle.words.specs.Reading.{table_of}
 use Rattle.std.proofs.Common.{sym, subst, ◌∙◌}
 use Rattle.taking.specs.Parts.{InHart}

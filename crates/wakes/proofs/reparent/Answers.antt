@@ -3,7 +3,7 @@ use Rattle.std.proofs.Common.{◌≡◌, arith, ◌*◌, ◌-◌}
 use Rattle.words.specs.Reading.{table_of}
 use Rattle.rules.specs.Sizes.{slot_count}
 use Rattle.rules.specs.Moves.{hand_over}
-use Rattle.promises.specs.Order.QueuedKept.{hand_over-queued}
+use Rattle.promises.proofs.Order.QueuedKept.{hand_over-queued}
 use Rattle.wakes.proofs.reparent.Goals as goal
 
 pub loop-b-init : goal.loop-b-init

@@ -2,7 +2,7 @@ use Rattle.wakes.proofs.WakeLaws.{sweep-none, sweep-four, one-queued, wake-all}
 use Rattle.std.proofs.Common.{◌≡◌, arith, ◌*◌, ◌-◌}
 use Rattle.rules.specs.Sizes.{slot_count}
 use Rattle.rules.specs.Moves.{wake_one}
-use Rattle.promises.specs.Order.QueuedKept.{wake_one-queued}
+use Rattle.promises.proofs.Order.QueuedKept.{wake_one-queued}
 use Rattle.wakes.proofs.wake_up.Goals as goal
 
 pub loop-b-init : goal.loop-b-init

@@ -1,6 +1,6 @@
 use Rattle.std.proofs.Common.{sym, subst}
 use Rattle.promises.specs.Order.Sound.{Sound}
-use Rattle.promises.specs.Reached.{fresh-sound}
+use Rattle.promises.proofs.Reached.{fresh-sound}
 use Rattle.rules.specs.Sizes.{slot_count, hart_count}
 use Rattle.words.specs.Layout.{word_count}
 use Rattle.words.proofs.Fresh.{new-law}

@@ -8,10 +8,12 @@ use Rattle.rules.specs.Moves.{spend}
 use Rattle.rules.specs.Calls.{Outcome, gives, moves, refuse, spent}
 use Rattle.rules.specs.Runs.{Call, step}
 use Rattle.promises.specs.Calls.Ended.{Fair, Ended, refused, spent_on, handed, granted}
-use Rattle.promises.specs.Calls.Steps.{step-ends}
+use Rattle.promises.proofs.Calls.Steps.{step-ends}
 use Rattle.promises.specs.Calls.RefusalTable.{lines_of, order, first_of, refusal_of, spends_pid}
-use Rattle.promises.specs.Calls.Refusals.{Right, step-when}
-use Rattle.promises.specs.Reached.{reached, reached-sound}
+use Rattle.promises.specs.Calls.Refusals.{Right}
+use Rattle.promises.proofs.Calls.Refusals.{step-when}
+use Rattle.promises.specs.Reached.{reached}
+use Rattle.promises.proofs.Reached.{reached-sound}
 
 pub refused-when : (cs : List Call) (c : Call) → refusal_of (step (reached cs) c).answer ≡ first_of order (lines_of (reached cs) c)
 unfolding Right

@@ -9,7 +9,8 @@ use Rattle.rules.specs.Runs.{Call}
 use Rattle.promises.specs.Laws.Numbers.{pids-short}
 use Rattle.promises.specs.Laws.Digits.{value_of, digits_value}
 use Rattle.promises.specs.ListingBound.{listing-short}
-use Rattle.promises.specs.Reached.{reached, reached-sound}
+use Rattle.promises.specs.Reached.{reached}
+use Rattle.promises.proofs.Reached.{reached-sound}
 
 pub listing-bounded : (cs : List Call) → length (listing (reached cs)) ≤ listing_top
 listing-bounded cs = let w = reached-sound cs in listing-short (reached cs) w.queued.tall (λ s. omega (arith, (w.tidy s).name))

@@ -5,7 +5,8 @@ use Rattle.promises.specs.Types.{Of}
 use Rattle.rules.specs.Model.{at, is_slot, slot}
 use Rattle.rules.specs.Runs.{Call}
 use Rattle.promises.specs.Order.Sound.{Elder}
-use Rattle.promises.specs.Reached.{reached, reached-sound}
+use Rattle.promises.specs.Reached.{reached}
+use Rattle.promises.proofs.Reached.{reached-sound}
 
 -- used, no ZOMBIE, no system thread
 pub parent-there : (cs : List Call) (s q : ℕ) → (at (reached cs).core s).kin.parent ≡ Of (slot q) → Elder (at (reached cs).core q)

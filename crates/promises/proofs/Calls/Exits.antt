@@ -12,8 +12,8 @@ use Rattle.promises.specs.Laws.Bools.{and_left, clash}
 use Rattle.promises.specs.Order.Sound.{Sound, Lives}
 use Rattle.promises.specs.Order.Wakes.{wake-calm, wake_of-calm, wake-empties}
 use Rattle.promises.specs.Order.Chains.{on_core, runs, joining, Farewell, sleeping, dying, Chain, and_then, chained}
-use Rattle.promises.specs.Order.Kept.{chain-sound}
-use Rattle.promises.specs.Calls.Walks.{wake-chain, wake_of-chain, wake-harts, wake_of-harts, slay-chain, slay-calm, slay-harts, reparent-chain, reparent-steady, reparent-clears}
+use Rattle.promises.proofs.Order.Kept.{chain-sound}
+use Rattle.promises.proofs.Calls.Walks.{wake-chain, wake_of-chain, wake-harts, wake_of-harts, slay-chain, slay-calm, slay-harts, reparent-chain, reparent-steady, reparent-clears}
 
 -- a thread is used
 pub thread-used : (t : Table) → Sound t → (i : ℕ) → (at t.core i).kin.thread ≡ true → is UNUSED (at t.core i) ≡ false

@@ -21,10 +21,11 @@ use Rattle.promises.specs.Order.Sound.{Sound}
 use Rattle.promises.specs.Order.States.{other, runs-running, runs-range}
 use Rattle.promises.specs.Order.Chains.{on_core, runs, device, waiting, joining, of_init, of_system, of_child, of_thread, publishing, yielding, sleeping, spending, filling, freeing, returning, resizing, Chain, and_then, one, chained}
 use Rattle.promises.specs.Order.Books.{leave-pids, reap-pids}
-use Rattle.promises.specs.Order.Kept.{chain-sound}
+use Rattle.promises.proofs.Order.Kept.{chain-sound}
 use Rattle.promises.specs.Calls.Shape.{refuse_if-any, found-any, on_hart-any, in_group-any, taking-any}
-use Rattle.promises.specs.Calls.Walks.{wake-chain, slay-chain, reap_threads-chain, Spared, reap_threads-spared, Settled, reap_threads-settled}
-use Rattle.promises.specs.Calls.Exits.{thread-used, blocked-chain, leader-chain, thread-chain}
+use Rattle.promises.specs.Calls.Walks.{Spared, Settled}
+use Rattle.promises.proofs.Calls.Walks.{wake-chain, slay-chain, reap_threads-chain, reap_threads-spared, reap_threads-settled}
+use Rattle.promises.proofs.Calls.Exits.{thread-used, blocked-chain, leader-chain, thread-chain}
 use Rattle.promises.specs.Calls.RefusalTable.{forks, spends_pid}
 use Rattle.promises.specs.Calls.Ended.{Ended, refused, spent_on, handed, granted, within-top, padded-long, vacant, filled, used, after, names-own, leader-known, caller-elder, leader-elder}
 

@@ -1,0 +1,4 @@
+pub mod Walks
+pub mod Exits
+pub mod Refusals
+pub mod Steps

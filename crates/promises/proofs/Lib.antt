@@ -1,0 +1,14 @@
+pub mod Order
+pub mod Calls
+pub mod Reached
+pub mod Did
+pub mod FirstOut
+pub mod Demand3
+pub mod Panics
+pub mod Places
+pub mod Parents
+pub mod Published
+pub mod Ledger
+pub mod Refused
+pub mod Listed
+pub mod WorkedRuns

@@ -1,0 +1,5 @@
+pub mod Alike
+pub mod QueuedKept
+pub mod TidyKept
+pub mod AsleepKept
+pub mod Kept
