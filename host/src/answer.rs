@@ -2,7 +2,7 @@
 
 use crate::{Exited, Joined, Pid, Refusal, Slot, Waited};
 
-/// The first word says which answer it is (`valuesOf` in crates/rules/specs/Answers.antt).
+/// The first word says which answer it is (`values_of` in crates/rules/specs/Answers.antt).
 const DONE: u64 = 0;
 const MADE: u64 = 1;
 const HANDED: u64 = 2;
@@ -10,7 +10,7 @@ const REAPED: u64 = 3;
 const JOINED: u64 = 4;
 const BLOCKED: u64 = 5;
 const REFUSED: u64 = 6;
-/// A text's length (`roomWords` in crates/sights/specs/Sights.antt).
+/// A text's length (`room_words` in crates/sights/specs/Sights.antt).
 const LISTED: u64 = 7;
 
 pub struct Answer(pub [u64; 3]);

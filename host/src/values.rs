@@ -98,7 +98,7 @@ impl Mapped {
         top: true,
     };
 
-    /// A bit each (`mappedOf` in crates/codes/specs/Codes.antt).
+    /// A bit each (`mapped_of` in crates/codes/specs/Codes.antt).
     #[inline]
     pub(crate) fn bits(self) -> u64 {
         let (entry, ret) = (u64::from(self.entry), u64::from(self.ret));

@@ -23,7 +23,7 @@ pub enum State {
 }
 
 impl State {
-    /// `stateCode` in crates/rules/specs/Model.antt.
+    /// `state_code` in crates/rules/specs/Model.antt.
     #[inline]
     fn coded(code: u64) -> Option<State> {
         Some(match code {
@@ -85,7 +85,7 @@ fn place(word: u64) -> Option<usize> {
 }
 
 impl SlotView {
-    /// `slotWords` in crates/sights/specs/Sights.antt.
+    /// `slot_words` in crates/sights/specs/Sights.antt.
     #[inline]
     pub(crate) fn of(words: Sight) -> SlotView {
         let [state, channel, killed, status, pid, queued, group, parent, thread, system] = words;
