@@ -57,7 +57,7 @@ pub fn dump_into(t: &[u64; Table::WORDS], buffer: &mut [u8]) -> Room
     }
 }
 
-// The part stands at the front of the buffer. What the rest holds can't be said of a part handed back; dump_into says it.
+// The part stands at the front of the buffer. What the rest holds is not said here; dump_into says it.
 pub fn proc_dump<'a>(t: &[u64; Table::WORDS], buffer: &'a mut [u8]) -> &'a mut [u8]
     ensures part { result.now ≡ listed_part (table_of t.now) buffer.old }
     ensures front { result.ref_ptr ≡ buffer.entry.ref_ptr }
