@@ -1,4 +1,4 @@
-use Rattle.std.proofs.Common.{◌-◌, arith, add-one, ◌≡◌, refl, length, length-set}
+use Rattle.std.proofs.Common.{arith, add-one, ◌≡◌, refl, length, length-set}
 use lib.Seq.{paste-zero, paste-suc, take-length}
 use Rattle.buffers.specs.Text.{put}
 use Rattle.buffers.proofs.write.Goals as goal
