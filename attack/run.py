@@ -15,6 +15,11 @@ import glob, os, queue, re, shutil, subprocess, sys, tempfile, threading
 ROOT = os.path.dirname(os.path.dirname(os.path.abspath(__file__)))
 TABLE = ("<!-- wrong answers: attack/run.py --table -->\n", "<!-- end of wrong answers -->\n")
 WORKERS = int(os.environ.get("WORKERS", "2"))
+# a line of the prover: its file, the statement that it is of, if any, and what does not hold
+ERROR = re.compile(r"^(?:\./)?(\S+?):\d+:\d+: error: (?:(`[^`]*`): )?(.*)", re.M)
+FOLLOWS = re.compile(r"(was|were) not checked")
+# what is said of a text that cannot be read, however true its statements are
+UNREADABLE = re.compile(r"is not in scope|has no field|has no `|is no name|operand is missing|expected the end|cannot continue")
 
 
 def stop(text):
@@ -68,7 +73,8 @@ class Edit:
 
 
 def crates():
-    return [line.split(":")[0] for line in read(os.path.join(ROOT, "crates.txt")).split("\n") if ":" in line]
+    lines = [line.split("#")[0] for line in read(os.path.join(ROOT, "crates.txt")).split("\n")]
+    return [line.split(":")[0].split()[0] for line in lines if ":" in line]
 
 
 def edits():
@@ -134,21 +140,33 @@ def check(all_edits):
     return wrong
 
 
-def dev(repo, crate):
-    done = subprocess.run(["rt", "dev", crate], cwd=repo, capture_output=True, text=True)
+def prove(repo, crate):
+    done = subprocess.run(["rt", "check"], cwd=os.path.join(repo, "crates", crate), capture_output=True, text=True)
     return done.returncode, done.stdout + done.stderr
+
+
+def unread(log, changed):
+    """What the prover cannot read of the edited text: such an edit says nothing of a contract."""
+    for file, name, said in ERROR.findall(log):
+        if FOLLOWS.search(said) or file.startswith("proofs/") and file not in changed:
+            continue
+        if not name or UNREADABLE.search(re.sub("`[^`]*`", "``", said)):
+            return f"{file}: {said}"
+    return None
 
 
 def reason(log):
     """The first thing that the prover says does not hold; not what only follows from it."""
-    for line in log.split("\n"):
-        found = re.match(r"\S*/crates/[^/]+/(\S+?):\d+:\d+: error: (.*)", line)
-        if found and "was not admitted" not in line:
-            return f"{found.group(1)}: {found.group(2)[:160]}"
+    errors = [(file, (name + ": " if name else "") + said) for file, name, said in ERROR.findall(log) if not FOLLOWS.search(said)]
+    for file, said in errors:
+        if not UNREADABLE.search(said):
+            return f"{file}: {said[:160]}"
     for line in log.split("\n"):
         found = re.match(r"fn (\S+): no proof: .*; (.*)", line)
         if found:
             return f"{found.group(1)}: {found.group(2)}"
+    for file, said in errors:
+        return f"a name that the edit took away, and no more: {file}: {said[:160]}"
     for line in log.split("\n"):
         if line.startswith("fn ") and not line.endswith(": proved"):
             return line
@@ -161,7 +179,7 @@ def work(repo, todo, results):
             crate, its = todo.get_nowait()
         except queue.Empty:
             return
-        code, log = dev(repo, crate)
+        code, log = prove(repo, crate)
         if code != 0:
             results.append((crate, None, f"{crate} is not proved as it stands"))
             continue
@@ -175,12 +193,21 @@ def work(repo, todo, results):
             for path, text in after.items():
                 with open(path, "w", encoding="utf-8") as f:
                     f.write(text)
-            code, log = dev(repo, crate)
+            code, log = prove(repo, crate)
             for path, text in before.items():
                 with open(path, "w", encoding="utf-8") as f:
                     f.write(text)
-            refused = code == 1 and "\nlogic=not-proved" in log
-            told = reason(log) if refused else ("NOT REFUSED" if code == 0 else f"BAD EDIT, it did not reach the prover: {log[:300]}")
+            fault = unread(log, [os.path.relpath(path, os.path.join(repo, "crates", crate)) for path in after])
+            refused = code == 1 and "\nlogic=not-proved" in log and not fault
+            if refused:
+                told = reason(log)
+            elif code == 0:
+                told = "NOT REFUSED"
+            elif code == 1:
+                fault = fault or next((line for line in log.split("\n") if ": error" in line), log[:300])
+                told = f"BAD EDIT, the prover cannot read it: {fault[:300]}"
+            else:
+                told = f"NO VERDICT, rt check ends with {code}: {log[-300:]}"
             results.append((crate, e, None if refused else told))
             print(f"{crate}/{e.name}: {'refused at ' if refused else ''}{told}", flush=True)
 
@@ -189,8 +216,10 @@ def attack(names):
     for name in names:
         if name not in crates():
             stop(f"there is no crate {name} in crates.txt")
-    if subprocess.run(["rt", "check"] + names, cwd=ROOT, stdout=subprocess.DEVNULL).returncode:
-        stop("rt check fails, so there is nothing to attack")
+    runs = [(os.path.join("crates", name), ["rt", "check"]) for name in names] or [("", ["rt", "all", "check"])]
+    for folder, command in runs:
+        if subprocess.run(command, cwd=os.path.join(ROOT, folder), stdout=subprocess.DEVNULL).returncode:
+            stop(f"{' '.join(command)} fails in ./{folder}, so there is nothing to attack")
     todo, results = queue.Queue(), []
     for crate in reversed(crates()):
         its = [e for e in edits() if e.crate == crate]
@@ -202,8 +231,8 @@ def attack(names):
             repo = os.path.join(temporary, str(n))
             os.mkdir(repo)
             shutil.copy(os.path.join(ROOT, "crates.txt"), repo)
-            for folder in ("crates", "target"):
-                shutil.copytree(os.path.join(ROOT, folder), os.path.join(repo, folder), ignore=shutil.ignore_patterns("must-fail", "inc") if folder == "target" else None)
+            # with what rt kept in each out/, so that only what an edit changes is proved
+            shutil.copytree(os.path.join(ROOT, "crates"), os.path.join(repo, "crates"), ignore=shutil.ignore_patterns("must-fail"))
             hands.append(threading.Thread(target=work, args=(repo, todo, results)))
             hands[-1].start()
         for hand in hands:
