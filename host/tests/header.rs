@@ -31,9 +31,9 @@ fn refusals_are_named_and_numbered_alike() {
 #[test]
 fn refusals_are_numbered_as_the_definitions_do() {
     let defined = text_of("../crates/rules/specs/Answers.antt");
-    let numbers = |line: &&str| line.starts_with("numberOf ");
+    let numbers = |line: &&str| line.starts_with("number_of ");
     let lines: Vec<_> = defined.lines().filter(numbers).collect();
-    let ours = |refusal: &Refusal| format!("numberOf {refusal:?} = {}", refusal.number());
+    let ours = |refusal: &Refusal| format!("number_of {refusal:?} = {}", refusal.number());
     assert_eq!(lines, Refusal::ALL.iter().map(ours).collect::<Vec<_>>());
 }
 
