@@ -28,17 +28,15 @@ function write_reply(line,  i) {
 function close_list() {
     if (!lists) return
     print "    ∷ []\n\nright" lists " : right fresh 1 list" lists " ≡ true"
-    print "unfolding everyLine textOf right list" lists "\nright" lists " = refl\n"
+    print "unfolding every_line text_of right list" lists "\nright" lists " = refl\n"
 }
 function all(name, between,  i, text) { for (i = 1; i <= lists; i++) text = text (i == 1 ? "" : between) name i; return text }
 BEGIN {
     print "-- The recorded sample, which oracle/recorded.sh put here: the answers are the Rust'\''s. One list, one claim."
-    print "use mathlib.Core.Path.{_≡_, refl}"
-    print "use mathlib.Core.Bool.{true}"
-    print "use mathlib.Core.List.{List, [], _∷_}"
-    print "use Rattle·rules.specs.Model.{fresh}"
-    print "use Rattle·recorded·specs.specs.Open.{everyLine}"
-    print "use Rattle·recorded·specs.specs.Replies.{Reply, reply, textOf, right, wrong}\n"
+    print "use Rattle.std.specs.Prelude.{◌≡◌, refl, true, List, [], ◌∷◌}"
+    print "use Rattle.rules.specs.Model.{fresh}"
+    print "use Rattle.recorded.specs.Open.{every_line}"
+    print "use Rattle.recorded.specs.Replies.{Reply, reply, text_of, right, wrong}\n"
     while (before-- >= 0) next_answer()
 }
 # document 01'\''s runs stand before the sample
