@@ -7,7 +7,7 @@ use mathlib.Core.Bool.{Bool, true, false, cond, not, ◌&&◌}
 use mathlib.Core.List.{List, [], ◌∷◌, ◌++◌}
 use lib.ListN.{length, get_or, take, drop, drop_of_length-le, get_or-eq_default}
 use lib.Seq.{drop-cons}
-use lib.Dec.{eqb, ltb, leb}
+use lib.Dec.{eqb, leb}
 use borrow.Author.Tests.{leb-true, not-true, eqb-true, eq-eqb}
 use Rattle.rules.specs.Listing.{bytes}
 use Rattle.promises.specs.Laws.Bools.{and_left, and_right, clash}

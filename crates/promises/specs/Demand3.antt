@@ -7,7 +7,6 @@ use Rattle.rules.specs.Calls.{Outcome}
 use Rattle.rules.specs.Runs.{Call, dispatch}
 use Rattle.promises.specs.Laws.Counts.{Stands}
 use Rattle.promises.specs.Order.Sound.{Lives}
-use Rattle.promises.specs.Order.Room.{queued-runnable}
 use Rattle.promises.specs.Reached.{reached}
 
 -- a slot that sleeps in wait: on its own channel

@@ -1,5 +1,5 @@
 -- First in, first out, over every run: a slot with k ahead is handed out by exactly the (k+1)th successful dispatch.
-use Rattle.std.specs.Prelude.{ℕ, ◌+◌, ◌-◌, ◌≤◌, ◌<◌, ◌≡◌, ◌≢◌, List, [], ◌∷◌, ◌++◌, length, get_or}
+use Rattle.std.specs.Prelude.{ℕ, ◌-◌, ◌≤◌, ◌<◌, ◌≡◌, ◌≢◌, List, [], ◌∷◌, ◌++◌, length, get_or}
 use Rattle.promises.specs.Types.{Answer, Done, Made, Handed, Reaped, Joined, Blocked, Refused}
 use Rattle.rules.specs.Model.{Table}
 use Rattle.rules.specs.Calls.{Outcome}

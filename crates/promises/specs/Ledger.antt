@@ -1,8 +1,8 @@
 -- Pids, groups and unused slots, over every run: a pid is never given again, a count is the number of slots, an UNUSED slot is a freed one.
-use Rattle.std.specs.Prelude.{ℕ, ◌+◌, ◌≤◌, ◌≡◌, true, false, List, [], ◌∷◌, ◌++◌}
+use Rattle.std.specs.Prelude.{ℕ, ◌≤◌, ◌≡◌, true, false, List, [], ◌∷◌, ◌++◌}
 use Rattle.promises.specs.Types.{UNUSED, Answer, Done, Made, Handed, Reaped, Joined, Blocked, Refused}
 use Rattle.rules.specs.Sizes.{pid_top, size_top}
-use Rattle.rules.specs.Model.{Table, at, group_at, free, is, pid}
+use Rattle.rules.specs.Model.{Table, at, group_at, free, is}
 use Rattle.promises.specs.Laws.Counts.{tally}
 use Rattle.promises.specs.Order.Sound.{names}
 

@@ -9,11 +9,10 @@ use Rattle.rules.specs.declared.ProcState.TheVariants.{UNUSED}
 use Rattle.rules.specs.declared.Parent.TheVariants.{Nobody, Of}
 use Rattle.rules.specs.declared.Member.{Member}
 use Rattle.rules.specs.declared.Member.TheVariants.{Alone, In}
-use Rattle.rules.specs.declared.Process.{Process}
 use Rattle.rules.specs.declared.Group.{Group}
 use Rattle.rules.specs.declared.Refusal.TheVariants.{NoSuchHart, HartIdle, TableFull, PidsSpent}
 use Rattle.rules.specs.Sizes.{hart_count, pid_top, trapframe, trampoline, page_size, name_size}
-use Rattle.rules.specs.Model.{Core, Table, at, hart_at, group_at, no_group, free, taken, is, pid}
+use Rattle.rules.specs.Model.{Core, Table, at, hart_at, group_at, no_group, free, is, pid}
 use Rattle.rules.specs.Moves.{change, lowest, set_group, join_group, less, leave_group, spend, reap}
 use Rattle.rules.specs.Calls.{spent}
 use Rattle.promises.specs.Order.Chains.{on_core}

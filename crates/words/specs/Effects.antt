@@ -1,5 +1,5 @@
 -- What the accessors do to a table.
-use Rattle.std.specs.Prelude.{◌≡◌, ℕ, ◌+◌, ◌%◌, ◌<◌, Bool, List, [], ◌∷◌, ◌++◌, set, slice_set}
+use Rattle.std.specs.Prelude.{◌≡◌, ℕ, ◌+◌, ◌%◌, ◌<◌, Bool, List, [], ◌∷◌, ◌++◌, slice_set}
 use Rattle.rules.specs.declared.Pid.{Pid}
 use Rattle.rules.specs.declared.ProcState.{ProcState}
 use Rattle.rules.specs.declared.Parent.{Parent}

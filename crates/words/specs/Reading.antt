@@ -1,5 +1,5 @@
 -- The table that the words hold. Every list of words holds one.
-use Rattle.std.specs.Prelude.{ℕ, zero, suc, ◌+◌, ◌-◌, ◌/◌, ◌%◌, ◌^◌, ◌<◌, Bool, cond, not, List, [], ◌∷◌, ◌++◌, ◌==◌, slice_index}
+use Rattle.std.specs.Prelude.{ℕ, zero, suc, ◌+◌, ◌-◌, ◌/◌, ◌%◌, ◌^◌, Bool, cond, not, List, [], ◌∷◌, ◌++◌, ◌==◌, slice_index}
 use Rattle.rules.specs.declared.ProcState.{ProcState}
 use Rattle.rules.specs.declared.ProcState.TheVariants.{UNUSED, ALLOCATED, RUNNABLE, RUNNING, SLEEPING, ZOMBIE}
 use Rattle.rules.specs.declared.Parent.{Parent}

@@ -1,6 +1,6 @@
 use borrow.Author.Tests.{not-true}
 use Rattle.ends.proofs.ReapLaws.{looks-none, looks-more, looks-all, looks-still}
-use Rattle.std.proofs.Common.{◌-◌, ◌≡◌, sym, ◌∙◌, arith}
+use Rattle.std.proofs.Common.{◌≡◌, sym, ◌∙◌, arith}
 use Rattle.rules.specs.Sizes.{slot_count}
 use Rattle.ends.proofs.reap_threads.Goals as goal
 

@@ -1,5 +1,5 @@
 use Rattle.words.proofs.Facts.{slots-count}
-use Rattle.std.proofs.Common.{◌-◌, ◌≤◌, ◌<◌, arith, sym, ap, ◌∙◌, length, length-append}
+use Rattle.std.proofs.Common.{◌≤◌, ◌<◌, arith, sym, ap, ◌∙◌, length, length-append}
 use Rattle.rules.specs.Sizes.{slot_count, name_size, line_top}
 use Rattle.words.specs.Reading.{table_of}
 use Rattle.listing.proofs.LineLaws.{below_none, below_more, below_all}

@@ -1,5 +1,5 @@
 use Rattle.words.proofs.Facts.{slots-count}
-use Rattle.std.proofs.Common.{◌+◌, ◌-◌, ◌≤◌, ◌<◌, arith, refl, ◌∙◌, ◌++◌, length}
+use Rattle.std.proofs.Common.{◌+◌, ◌≤◌, ◌<◌, arith, refl, ◌∙◌, ◌++◌, length}
 use Rattle.rules.specs.Sizes.{slot_count}
 use Rattle.rules.specs.Model.{Table}
 use Rattle.words.specs.Reading.{table_of}

@@ -1,7 +1,7 @@
 use Rattle.pieces.proofs.PieceLaws.{hex-more}
 use Rattle.pieces.specs.Pieces.{hex_text}
 use Rattle.buffers.proofs.TextLaws.{wrote_none, wrote-long, wrote-more}
-use Rattle.std.proofs.Common.{take_all, refl, ◌∙◌, ◌-◌, arith}
+use Rattle.std.proofs.Common.{take_all, refl, ◌∙◌, arith}
 use Rattle.pieces.proofs.write_hex.Goals as goal
 
 pub loop-i-init : goal.loop-i-init

@@ -10,7 +10,7 @@ use Rattle.std.proofs.lemmas.Bool.{not-true, not-false}
 use Rattle.promises.specs.Types.{Pid, RUNNING, ZOMBIE, Parent, Nobody, Of, Member, In, Process, Wish, ThreadAsk, Mapped, NoSuchHart, HartIdle, HartBusy, QueueEmpty, TableFull, PidsSpent, NoGroup, BadAddress, Unmapped, NoneSuch, StatusUnwritable, InitOutOfTurn, WrongWayOut, NotADevice, NameTooLong, SizeOutOfLimits, NoMemory, Done, Blocked}
 use Rattle.rules.specs.Sizes.{hart_count, init_size, own_channel, first_device}
 use Rattle.rules.specs.Answers.{number_of}
-use Rattle.rules.specs.Model.{Table, at, hart_at, free, is, is_slot, known, slot}
+use Rattle.rules.specs.Model.{Table, at, hart_at, free, is, is_slot, known}
 use Rattle.rules.specs.Moves.{lowest, open_group, join_group, resize, set_init, spend, reap}
 use Rattle.rules.specs.Calls.{moves, spent, publish_new, made_in, init_name, init_in, booted_in, booted, started_at, started, system_in, spawned_in, spawned, system_returned_by, system_returned, child_in, forked_in, forked_by, forked, leader_of, thread_in, threaded_in, threaded_by, threaded, hand_next, dispatched, yielded, slept, woken, has_pid, killed, zombie_child_of, waited_for, waited, thread_of, thread_named, joined_to, joined_by, joined, thread_ended, reap_threads, exited_past, leader_exited, exited_by, exited, thread_exited_by, thread_exited, grown_to, grown_by, grown}
 use Rattle.rules.specs.Runs.{Call, boot, start, spawn, system_return, fork, thread, dispatch, yield, sleep, wakeup, kill, wait, join, thread_exit, exit, grow, step}
@@ -27,7 +27,7 @@ use Rattle.promises.specs.Calls.Walks.{Spared, Settled}
 use Rattle.promises.proofs.Calls.Walks.{wake-chain, slay-chain, reap_threads-chain, reap_threads-spared, reap_threads-settled}
 use Rattle.promises.proofs.Calls.Exits.{thread-used, blocked-chain, leader-chain, thread-chain}
 use Rattle.promises.specs.Calls.RefusalTable.{forks, spends_pid}
-use Rattle.promises.specs.Calls.Ended.{Ended, refused, spent_on, handed, granted, within-top, padded-long, vacant, filled, used, after, names-own, leader-known, caller-elder, leader-elder}
+use Rattle.promises.specs.Calls.Ended.{Ended, refused, spent_on, handed, granted, within-top, padded-long, vacant, filled, after, names-own, leader-known, caller-elder, leader-elder}
 
 -- ---- boot, start, spawn, system return
 module _ (t : Table) (w : Sound t) where

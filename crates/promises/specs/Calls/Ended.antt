@@ -16,7 +16,7 @@ use Rattle.promises.specs.Laws.Bools.{clash}
 use Rattle.promises.specs.Laws.Scans.{lowest-passes, lowest-range}
 use Rattle.promises.specs.Order.Sound.{is_in, Elder, names, Sound}
 use Rattle.promises.specs.Order.States.{other, runs-running, runs-used}
-use Rattle.promises.specs.Order.Chains.{runs, Vacant, Chain, one}
+use Rattle.promises.specs.Order.Chains.{runs, Vacant, Chain}
 use Rattle.promises.specs.Calls.RefusalTable.{spends_pid}
 
 -- ---- how a call ends

@@ -1,4 +1,4 @@
-use Rattle.std.proofs.Common.{rules, arith, ◌-◌}
+use Rattle.std.proofs.Common.{rules, arith}
 use Rattle.runs.proofs.RunLaws.{begun, room, call-in, next, ended, none_left, all_done, first-none, first-call, most-fits}
 use Rattle.runs.proofs.run.Goals as goal
 

@@ -1,4 +1,4 @@
-use Rattle.std.proofs.Common.{arith, ◌-◌, sym, ◌∙◌}
+use Rattle.std.proofs.Common.{arith, sym, ◌∙◌}
 use Rattle.rules.specs.Sizes.{slot_count}
 use Rattle.rules.specs.Model.{free}
 use Rattle.words.specs.Reading.{table_of}

@@ -1,4 +1,4 @@
-use Rattle.std.proofs.Common.{arith, ◌-◌, sym, ◌∙◌, ap, eq-eqb, ne_eqb}
+use Rattle.std.proofs.Common.{arith, sym, ◌∙◌, ap, eq-eqb, ne_eqb}
 use Rattle.rules.specs.Sizes.{slot_count, group_count}
 use Rattle.rules.specs.declared.Group.{Group}
 use Rattle.rules.specs.Model.{no_group}

@@ -1,5 +1,5 @@
 use Rattle.session.proofs.StandLaws.{begun, room-made, nearer, next, all-heard, unwritten}
-use Rattle.std.proofs.Common.{◌-◌, refl, arith}
+use Rattle.std.proofs.Common.{refl, arith}
 use Rattle.std.proofs.lemmas.Result.{err_from_is_err_and}
 use Rattle.session.proofs.take_all.Goals as goal
 

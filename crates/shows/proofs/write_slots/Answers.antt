@@ -1,7 +1,7 @@
 use Rattle.shows.proofs.SlotsLaws.{shown-none, shown-room, shown-next, shown-all}
 use Rattle.words.specs.Reading.{table_of}
 use Rattle.rules.specs.Sizes.{slot_count}
-use Rattle.std.proofs.Common.{◌-◌, arith}
+use Rattle.std.proofs.Common.{arith}
 use Rattle.shows.proofs.write_slots.Goals as goal
 
 pub loop-s-init : goal.loop-s-init

@@ -1,8 +1,7 @@
 use Rattle.wakes.proofs.WakeLaws.{sweep-none, sweep-four, one-queued, reparent-all}
-use Rattle.std.proofs.Common.{◌≡◌, arith, ◌*◌, ◌-◌}
+use Rattle.std.proofs.Common.{◌≡◌, arith, ◌*◌}
 use Rattle.words.specs.Reading.{table_of}
 use Rattle.rules.specs.Sizes.{slot_count}
-use Rattle.rules.specs.Moves.{hand_over}
 use Rattle.promises.proofs.Order.QueuedKept.{hand_over-queued}
 use Rattle.wakes.proofs.reparent.Goals as goal
 

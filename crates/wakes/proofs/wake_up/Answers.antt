@@ -1,7 +1,6 @@
 use Rattle.wakes.proofs.WakeLaws.{sweep-none, sweep-four, one-queued, wake-all}
-use Rattle.std.proofs.Common.{◌≡◌, arith, ◌*◌, ◌-◌}
+use Rattle.std.proofs.Common.{◌≡◌, arith, ◌*◌}
 use Rattle.rules.specs.Sizes.{slot_count}
-use Rattle.rules.specs.Moves.{wake_one}
 use Rattle.promises.proofs.Order.QueuedKept.{wake_one-queued}
 use Rattle.wakes.proofs.wake_up.Goals as goal
 

@@ -1,5 +1,5 @@
 use Rattle.buffers.proofs.TextLaws.{wrote-long}
-use Rattle.std.proofs.Common.{sym, ◌∙◌, arith, ◌-◌}
+use Rattle.std.proofs.Common.{sym, ◌∙◌, arith}
 use Rattle.lines.proofs.GrammarLaws.{kinds-few}
 use Rattle.lines.proofs.ArgumentLaws.{begun, one_more, one-not, next, too_many, all_there}
 use Rattle.lines.proofs.arguments.read.Goals as goal

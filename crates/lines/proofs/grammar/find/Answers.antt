@@ -1,4 +1,3 @@
-use Rattle.std.proofs.Common.{◌-◌}
 use Rattle.lines.proofs.GrammarLaws.{all_names, names-spelled, walk-starts, walk_ends, walk-found, walk-goes}
 use Rattle.rules.specs.Listing.{bytes}
 use Rattle.lines.proofs.grammar.find.Goals as goal

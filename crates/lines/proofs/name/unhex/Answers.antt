@@ -1,5 +1,5 @@
 use Rattle.lines.proofs.ValueLaws.{unhex-starts, byte_fits, unhex-goes, unhex-ends}
-use Rattle.std.proofs.Common.{refl, arith, ◌-◌}
+use Rattle.std.proofs.Common.{refl, arith}
 use Rattle.lines.proofs.name.unhex.Goals as goal
 
 pub loop-j-init : goal.loop-j-init

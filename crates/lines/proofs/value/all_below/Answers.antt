@@ -1,5 +1,5 @@
 use Rattle.lines.proofs.ValueLaws.{below_on, below-not, below_end}
-use Rattle.std.proofs.Common.{◌-◌, refl, sym, ◌∙◌, arith}
+use Rattle.std.proofs.Common.{refl, sym, ◌∙◌, arith}
 use Rattle.lines.proofs.value.all_below.Goals as goal
 
 pub loop-j-init : goal.loop-j-init

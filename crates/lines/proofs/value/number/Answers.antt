@@ -1,6 +1,6 @@
 use Rattle.lines.proofs.ValueLaws.{below_at, read-on, read-large, read-end, no_digit, not-digits, too_large, number_is}
 use borrow.Author.Tests.{not-true, not-false}
-use Rattle.std.proofs.Common.{◌-◌, refl, sym, ◌∙◌, arith}
+use Rattle.std.proofs.Common.{refl, sym, ◌∙◌, arith}
 use Rattle.lines.proofs.value.number.Goals as goal
 
 pub returns-then-w-eq0 : goal.returns-then-w-eq0

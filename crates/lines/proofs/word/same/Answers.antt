@@ -1,5 +1,5 @@
 use Rattle.lines.proofs.WordLaws.{same_length, same-on, same_not, same_end}
-use Rattle.std.proofs.Common.{◌-◌, refl, sym, ◌∙◌, arith}
+use Rattle.std.proofs.Common.{refl, sym, ◌∙◌, arith}
 use Rattle.lines.proofs.word.same.Goals as goal
 
 pub returns-then-a-b : goal.returns-then-a-b

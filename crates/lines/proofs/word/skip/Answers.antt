@@ -1,7 +1,7 @@
 use borrow.Author.Tests.{not-true, not-false}
 use Rattle.lines.proofs.WordLaws.{passes_on, passes-not, passes-all}
 use Rattle.lines.specs.Words.{space_is}
-use Rattle.std.proofs.Common.{◌-◌, refl, sym, ◌∙◌, arith}
+use Rattle.std.proofs.Common.{refl, sym, ◌∙◌, arith}
 use Rattle.lines.proofs.word.skip.Goals as goal
 
 pub loop-j-init : goal.loop-j-init

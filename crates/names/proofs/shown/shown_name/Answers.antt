@@ -1,4 +1,4 @@
-use Rattle.std.proofs.Common.{◌-◌, arith}
+use Rattle.std.proofs.Common.{arith}
 use Rattle.names.proofs.NameLaws.{name-length, shown-start, shown-more, shown-zero, shown-all}
 use Rattle.names.proofs.shown.shown_name.Goals as goal
 

@@ -1,5 +1,5 @@
 use Rattle.session.proofs.TalkLaws.{none-heard, ready, next, took}
-use Rattle.std.proofs.Common.{◌-◌, refl, arith}
+use Rattle.std.proofs.Common.{refl, arith}
 use Rattle.rules.specs.Sizes.{slot_count, hart_count, name_size}
 use Rattle.session.proofs.talk.take.Goals as goal
 

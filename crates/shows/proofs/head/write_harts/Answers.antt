@@ -6,7 +6,7 @@ use Rattle.words.specs.Reading.{table_of}
 use Rattle.rules.specs.Listing.{bytes}
 use Rattle.rules.specs.Sizes.{hart_count}
 use Rattle.rules.specs.declared.Parent.TheVariants.{Nobody}
-use Rattle.std.proofs.Common.{◌-◌, rules, arith}
+use Rattle.std.proofs.Common.{rules, arith}
 use Rattle.shows.proofs.head.write_harts.Goals as goal
 
 pub hart_at-requires : goal.hart_at-requires

@@ -2,7 +2,7 @@ use Rattle.shows.proofs.ShowLaws.{listed_start, listed_more, listed-all, queue-n
 use Rattle.words.specs.Reading.{table_of}
 use Rattle.rules.specs.Listing.{bytes, digits}
 use Rattle.rules.specs.Sizes.{slot_count}
-use Rattle.std.proofs.Common.{◌-◌, rules, arith}
+use Rattle.std.proofs.Common.{rules, arith}
 use Rattle.shows.proofs.head.write_queue.Goals as goal
 
 pub write-requires : goal.write-requires

@@ -1,5 +1,5 @@
 use Rattle.texts.proofs.SaidLaws.{dot-not, dot-here, dot-end}
-use Rattle.std.proofs.Common.{arith, ◌-◌}
+use Rattle.std.proofs.Common.{arith}
 use Rattle.texts.proofs.said.words_len.Goals as goal
 
 pub loop-j-init : goal.loop-j-init
