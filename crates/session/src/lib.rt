@@ -1,10 +1,10 @@
 // An input to a session, in whatever pieces it comes, and what is said to an output.
 #![tactic(auto)]
 
-ghost use Rattle.std.specs.Prelude.{◌≡◌, ◌+◌, ◌≤◌, length, IfOk, OnOk, OnErr};
+ghost use Rattle.std.specs.Prelude.{◌≡◌, ◌+◌, ◌<◌, ◌≤◌, length, IfOk, OnOk, OnErr};
 ghost use Rattle.desk.specs.Desk.{desk_top};
 ghost use Rattle.session.specs.Places.{seat_of, Ready};
-ghost use Rattle.session.specs.Turns.{place_of, after_room, Heard, HeardSome, Left};
+ghost use Rattle.session.specs.Turns.{place_of, after_room, Heard, HeardSome, LeftPart, LeftSome};
 
 use std::io;
 use std::io::{Read, Write};
@@ -28,7 +28,8 @@ enum Turn {
 // Writes what waits, if the next answer might not fit behind it.
 fn make_room<W: Write>(output: &mut W, out: &[u8], at: usize) -> io::Result<usize>
     requires { (desk_top ≤ length out.now) × (at ≤ length out.now) }
-    ensures { IfOk result (λ to. (to ≡ after_room at (length out.now)) × (to + desk_top ≤ length out.now)) }
+    ensures room { IfOk result (λ to. (to ≡ after_room at (length out.now)) × (to + desk_top ≤ length out.now)) }
+    ensures unwritten { OnErr result (length out.now < at + desk_top) }
 {
     if at <= out.len() - desk::TOP {
         return Ok(at);
@@ -49,7 +50,7 @@ fn take_all<W: Write>(
 ) -> io::Result<Place>
     requires { Ready t.old line.old name.old out.old p }
     ensures all { IfOk result (λ q. Heard (seat_of t.old line.old out.old p) chunk.now t.new line.new name.new out.new q) }
-    ensures unwritten { OnErr result (Left (seat_of t.old line.old out.old p) t.new line.new out.new) }
+    ensures unwritten { OnErr result (LeftPart (seat_of t.old line.old out.old p) chunk.now t.new line.new out.new) }
 {
     let mut len = p.len;
     let mut number = p.number;
@@ -85,7 +86,7 @@ fn listen<R: Read, W: Write>(
 ) -> io::Result<Turn>
     requires { Ready t.old line.old name.old out.old p }
     ensures some { IfOk result (λ turn. HeardSome (seat_of t.old line.old out.old p) t.new line.new name.new out.new (place_of turn)) }
-    ensures failed { OnErr result (Left (seat_of t.old line.old out.old p) t.new line.new out.new) }
+    ensures failed { OnErr result (LeftSome (seat_of t.old line.old out.old p) t.new line.new out.new) }
 {
     let mut chunk = [0u8; PIECE];
     let n = input.read(&mut chunk)?;
@@ -107,7 +108,7 @@ fn hear<R: Read, W: Write>(
 ) -> io::Result<Place>
     requires { Ready t.old line.old name.old out.old p }
     ensures some { IfOk result (λ q. HeardSome (seat_of t.old line.old out.old p) t.new line.new name.new out.new q) }
-    ensures failed { OnErr result (Left (seat_of t.old line.old out.old p) t.new line.new out.new) }
+    ensures failed { OnErr result (LeftSome (seat_of t.old line.old out.old p) t.new line.new out.new) }
 {
     let mut len = p.len;
     let mut number = p.number;

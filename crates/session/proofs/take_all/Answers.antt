@@ -1,4 +1,4 @@
-use Rattle.session.proofs.StandLaws.{begun, room-made, nearer, next, all-heard, unwritten}
+use Rattle.session.proofs.StandLaws.{begun, room-made, nearer, next, all-heard, part-heard}
 use Rattle.std.proofs.Common.{refl, arith}
 use Rattle.std.proofs.lemmas.Result.{err_from_is_err_and}
 use Rattle.session.proofs.take_all.Goals as goal
@@ -21,7 +21,7 @@ make_room-requires g c =
 pub returns-in_err-at-clause-unwritten : goal.returns-in_err-at-clause-unwritten
 returns-in_err-at-clause-unwritten g c =
     let p = err_from_is_err_and c.from_residual.result c.from_residual.ensures.1 in
-    rw p.1 (unwritten _ _ _ _ c.loop-done.invariant.stand c.take-e.ensures c.take-e.auto.out)
+    rw p.1 (part-heard _ _ _ _ c.loop-done.invariant c.take-e.ensures c.take-e.auto.out)
 
 pub overflow_add-done : goal.overflow_add-done
 overflow_add-done g c =
@@ -33,7 +33,7 @@ loop-done-smaller g c =
 
 pub loop-done-preserved : goal.loop-done-preserved
 loop-done-preserved g c =
-    next _ _ _ _ c.loop-done.invariant c.take-e.ensures c.take-e.auto.out c.loop-done-test.true c.take-e.auto.line c.take-e.auto.name c.in_ok-at.ensures.1
+    next _ _ _ _ c.loop-done.invariant c.take-e.ensures c.take-e.auto.out c.loop-done-test.true c.take-e.auto.line c.take-e.auto.name c.in_ok-at.ensures.room.1
 
 pub returns-clause-all : goal.returns-clause-all
 returns-clause-all g c = all-heard _ _ _ _ c.loop-done.invariant c.loop-done-test.false
