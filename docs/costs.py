@@ -11,7 +11,7 @@ import glob, os, shutil, subprocess, sys, tempfile, time
 ROOT = os.path.dirname(os.path.dirname(os.path.abspath(__file__)))
 PEAK = "import resource, subprocess, sys; r = subprocess.run(sys.argv[1:], stdout=subprocess.DEVNULL).returncode; " \
        "print(resource.getrusage(resource.RUSAGE_CHILDREN).ru_maxrss); sys.exit(r)"
-# theorems, with their proofs, stand in its specs
+# theorems, with their proofs, stand in its specs too
 THEOREMS = ("promises",)
 
 
