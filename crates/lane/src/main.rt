@@ -3,6 +3,6 @@
 
 use std::io;
 
-fn main(rt: HostRuntime) -> io::Result<()> {
-    session::run(&mut rt.stdin(), &mut io::writer(&rt))
+fn main(rt: HostRuntime) {
+    session::run(&mut rt.stdin(), &mut io::writer(&rt));
 }

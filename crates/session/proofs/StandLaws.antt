@@ -11,7 +11,7 @@ use Rattle.session.specs.Rounds.{written, hears-written}
 use Rattle.session.specs.Progress.{goes_on}
 use Rattle.session.specs.declared.Turn.{Turn}
 use Rattle.session.specs.declared.Turn.TheVariants.{Goes, Ends}
-use Rattle.session.specs.Turns.{place_of, after_room, Heard, HeardSome, Left, LeftPart, LeftSome}
+use Rattle.session.specs.Turns.{place_of, after_room, Heard, HeardSome}
 
 -- ---- room for another answer
 module _ (at size : ℕ) where
@@ -78,14 +78,6 @@ module _ (s₀ : Seat) (line₀ name₀ out₀ : List ℕ) where
         seat = ap written k.holds.seat;
       })
 
-      -- what was said to it could not be written
-      pub unwritten : Left s₀ (input ++ take r.used piece) u line' d
-      unwritten = record {
-        place = r.place;
-        seat = ap written k.holds.seat ∙ onward s₀ here input (take r.used piece) s.heard.seat;
-        sound = k.holds.sound;
-      }
-
       -- it ends
       pub nearer : (l : List ℕ) (done : ℕ) → done < length l → piece ≡ take (length l - done) (drop done l) → (0 < r.used) × (done + r.used ≤ length l)
       nearer l done h e = let f : length piece ≡ length l - done = ap length e ∙ rest-length l done (omega arith) in (goes_on s.heard.ready piece k c (omega arith), omega (arith, k.used))
@@ -108,14 +100,6 @@ module _ (s₀ : Seat) (line₀ name₀ out₀ : List ℕ) where
       stand = subst (λ (x : List ℕ). Stands x u line' name' d r.place.len r.place.number n) (taken_more chunk done r.used m.within) (taken m.stand k c a b f);
     }
 
-    pub part-heard : {u line' d : List ℕ} {r : Taken}
-        → HeardPart (seat_of t line out (record { len = len; number = number; at = at })) out (take (length chunk - done) (drop done chunk)) u line' d r
-        → length d ≡ length out → LeftPart s₀ chunk u line' d
-    part-heard {u} {line'} {d} {r} k c = record {
-      used = done + r.used;
-      left = subst (λ (x : List ℕ). Left s₀ x u line' d) (taken_more chunk done r.used m.within) (unwritten m.stand k c);
-    }
-
     pub all-heard : length chunk ≤ done → Heard s₀ chunk t line name out (record { len = len; number = number; at = at })
     all-heard h = subst (λ (x : List ℕ). Heard s₀ x t line name out (record { len = len; number = number; at = at })) (take_all done chunk h) m.stand.heard
 
@@ -132,16 +116,6 @@ module _ (s₀ : Seat) (line₀ name₀ out₀ : List ℕ) where
         → HeardSome (seat_of t line out (record { len = len; number = number; at = at })) u line' name' d q → Listening u line' name' d q.len q.number q.at
     goes a b c h = record { input = w.input ++ h.input; stand = turned w.stand a b c h.heard }
 
-    pub left : {u line' d : List ℕ} → LeftSome (seat_of t line out (record { len = len; number = number; at = at })) u line' d → LeftSome s₀ u line' d
-    left h = record {
-      input = w.input ++ h.input;
-      left = record {
-        place = h.left.place;
-        seat = h.left.seat ∙ onward s₀ (seat_of t line out (record { len = len; number = number; at = at })) w.input h.input w.stand.heard.seat;
-        sound = h.left.sound;
-      };
-    }
-
     pub some-heard : HeardSome s₀ t line name out (record { len = len; number = number; at = at })
     some-heard = record { input = w.input; heard = w.stand.heard }
 
@@ -150,13 +124,6 @@ module _ (s : Seat) (t line name out : List ℕ) where
   pub none-heard : {p : Place} → s ≡ seat_of t line out p → Ready t line name out p → HeardSome s t line name out p
   unfolding hears
   none-heard e r = record { input = []; heard = record { ready = r; seat = ap written (sym e) } }
-
-  pub none-left : {p : Place} → s ≡ seat_of t line out p → Ready t line name out p → LeftSome s t line out
-  unfolding hears
-  none-left {p} e r = record { input = []; left = record { place = p; seat = ap written (sym e); sound = r.sound } }
-
-  pub part-left : {chunk u line' d : List ℕ} → LeftPart s chunk u line' d → LeftSome s u line' d
-  part-left {chunk} h = record { input = take h.used chunk; left = h.left }
 
   pub goes_by : {r : Turn} {p : Place} → r ≡ Goes p → HeardSome s t line name out (place_of r) → HeardSome s t line name out p
   goes_by e h = subst (λ (x : Turn). HeardSome s t line name out (place_of x)) e h

@@ -1,9 +1,7 @@
 -- A turn of reading.
-use Rattle.std.specs.Prelude.{◌≡◌, ℕ, ◌+◌, cond, List, take, nat_le}
+use Rattle.std.specs.Prelude.{◌≡◌, ℕ, ◌+◌, cond, List, nat_le}
 use Rattle.desk.specs.Desk.{desk_top}
 use Rattle.session.specs.declared.talk.Place.{Place}
-use Rattle.promises.specs.Order.Sound.{Sound}
-use Rattle.words.specs.Reading.{table_of}
 use Rattle.session.specs.Talk.{Seat, hears}
 use Rattle.session.specs.Places.{seat_of, Ready}
 use Rattle.session.specs.Rounds.{written}
@@ -28,19 +26,3 @@ pub record Heard (s : Seat) (input t line name out : List ℕ) (p : Place) : Typ
 pub record HeardSome (s : Seat) (t line name out : List ℕ) (p : Place) : Type 0 where
   pub input : List ℕ
   pub heard : Heard s input t line name out p
-
--- so much of the input was heard when a read or a write failed; an answer to it may be lost, and the table is in order
-pub record Left (s : Seat) (input t line out : List ℕ) : Type 0 where
-  pub place : Place
-  pub seat : written (seat_of t line out place) ≡ written (hears s input)
-  pub sound : Sound (table_of t)
-
--- a front of the input was heard
-pub record LeftPart (s : Seat) (input t line out : List ℕ) : Type 0 where
-  pub used : ℕ
-  pub left : Left s (take used input) t line out
-
--- some input was heard, which a host knows
-pub record LeftSome (s : Seat) (t line out : List ℕ) : Type 0 where
-  pub input : List ℕ
-  pub left : Left s input t line out

@@ -1,12 +1,11 @@
 // An input to a session, in whatever pieces it comes, and what is said to an output.
 #![tactic(auto)]
 
-ghost use Rattle.std.specs.Prelude.{◌≡◌, ◌+◌, ◌<◌, ◌≤◌, length, IfOk, OnOk, OnErr};
+ghost use Rattle.std.specs.Prelude.{◌≡◌, ◌+◌, ◌≤◌, length};
 ghost use Rattle.desk.specs.Desk.{desk_top};
 ghost use Rattle.session.specs.Places.{seat_of, Ready};
-ghost use Rattle.session.specs.Turns.{place_of, after_room, Heard, HeardSome, LeftPart, LeftSome};
+ghost use Rattle.session.specs.Turns.{place_of, after_room, Heard, HeardSome};
 
-use std::io;
 use std::io::{Read, Write};
 use talk::Place;
 use words::Table;
@@ -25,17 +24,34 @@ enum Turn {
     Ends(Place),
 }
 
+// How many bytes came: none once the input has ended or can't be read.
+fn read<R: Read>(input: &mut R, chunk: &mut [u8]) -> usize
+    ensures { result ≤ length chunk.new }
+{
+    match input.read(chunk) {
+        Ok(n) => n,
+        Err(_) => 0,
+    }
+}
+
+// What can't be written is passed over.
+fn write_all<W: Write>(output: &mut W, said: &[u8]) {
+    match output.write_all(said) {
+        Ok(()) => {}
+        Err(_) => {}
+    }
+}
+
 // Writes what waits, if the next answer might not fit behind it.
-fn make_room<W: Write>(output: &mut W, out: &[u8], at: usize) -> io::Result<usize>
+fn make_room<W: Write>(output: &mut W, out: &[u8], at: usize) -> usize
     requires { (desk_top ≤ length out.now) × (at ≤ length out.now) }
-    ensures room { IfOk result (λ to. (to ≡ after_room at (length out.now)) × (to + desk_top ≤ length out.now)) }
-    ensures unwritten { OnErr result (length out.now < at + desk_top) }
+    ensures { (result ≡ after_room at (length out.now)) × (result + desk_top ≤ length out.now) }
 {
     if at <= out.len() - desk::TOP {
-        return Ok(at);
+        return at;
     }
-    output.write_all(&out[..at])?;
-    Ok(0)
+    write_all(output, &out[..at]);
+    0
 }
 
 // A whole piece of the input.
@@ -47,10 +63,9 @@ fn take_all<W: Write>(
     name: &mut [u8],
     out: &mut [u8],
     p: Place,
-) -> io::Result<Place>
+) -> Place
     requires { Ready t.old line.old name.old out.old p }
-    ensures all { IfOk result (λ q. Heard (seat_of t.old line.old out.old p) chunk.now t.new line.new name.new out.new q) }
-    ensures unwritten { OnErr result (LeftPart (seat_of t.old line.old out.old p) chunk.now t.new line.new out.new) }
+    ensures { Heard (seat_of t.old line.old out.old p) chunk.now t.new line.new name.new out.new result }
 {
     let mut len = p.len;
     let mut number = p.number;
@@ -68,10 +83,10 @@ fn take_all<W: Write>(
         let q = e.place;
         len = q.len;
         number = q.number;
-        at = make_room(output, out, q.at)?;
+        at = make_room(output, out, q.at);
         done += e.used;
     }
-    Ok(Place { len, number, at })
+    Place { len, number, at }
 }
 
 // Reads once.
@@ -83,17 +98,16 @@ fn listen<R: Read, W: Write>(
     name: &mut [u8],
     out: &mut [u8],
     p: Place,
-) -> io::Result<Turn>
+) -> Turn
     requires { Ready t.old line.old name.old out.old p }
-    ensures some { IfOk result (λ turn. HeardSome (seat_of t.old line.old out.old p) t.new line.new name.new out.new (place_of turn)) }
-    ensures failed { OnErr result (LeftSome (seat_of t.old line.old out.old p) t.new line.new out.new) }
+    ensures { HeardSome (seat_of t.old line.old out.old p) t.new line.new name.new out.new (place_of result) }
 {
     let mut chunk = [0u8; PIECE];
-    let n = input.read(&mut chunk)?;
+    let n = read(input, &mut chunk);
     if n == 0 {
-        return Ok(Turn::Ends(p));
+        return Turn::Ends(p);
     }
-    Ok(Turn::Goes(take_all(output, t, &chunk[..n], line, name, out, p)?))
+    Turn::Goes(take_all(output, t, &chunk[..n], line, name, out, p))
 }
 
 // A proved loop has to end, and nothing says that an input does: it counts its turns, from a number that no run uses up.
@@ -105,41 +119,39 @@ fn hear<R: Read, W: Write>(
     name: &mut [u8],
     out: &mut [u8],
     p: Place,
-) -> io::Result<Place>
+) -> Place
     requires { Ready t.old line.old name.old out.old p }
-    ensures some { IfOk result (λ q. HeardSome (seat_of t.old line.old out.old p) t.new line.new name.new out.new q) }
-    ensures failed { OnErr result (LeftSome (seat_of t.old line.old out.old p) t.new line.new out.new) }
+    ensures { HeardSome (seat_of t.old line.old out.old p) t.new line.new name.new out.new result }
 {
     let mut len = p.len;
     let mut number = p.number;
     let mut at = p.at;
     let mut turns = u64::MAX;
     while turns > 0 {
-        match listen(input, output, t, line, name, out, Place { len, number, at })? {
+        match listen(input, output, t, line, name, out, Place { len, number, at }) {
             Turn::Goes(q) => {
                 len = q.len;
                 number = q.number;
                 at = q.at;
             }
             Turn::Ends(q) => {
-                return Ok(q);
+                return q;
             }
         }
         turns -= 1;
     }
-    Ok(Place { len, number, at })
+    Place { len, number, at }
 }
 
-pub fn run<R: Read, W: Write>(input: &mut R, output: &mut W) -> io::Result<()> {
+pub fn run<R: Read, W: Write>(input: &mut R, output: &mut W) {
     let new = Table::new();
     let mut t = new.words;
     let mut line = [0u8; talk::LINE];
     let mut name = [0u8; talk::LINE];
     let mut out = [0u8; ROOM];
     let start = talk::start();
-    let p = hear(input, output, &mut t, &mut line, &mut name, &mut out, start)?;
+    let p = hear(input, output, &mut t, &mut line, &mut name, &mut out, start);
     let e = talk::close(&mut t, &line, &mut name, &mut out, p);
     let at = e.at;
-    output.write_all(&out[..at])?;
-    Ok(())
+    write_all(output, &out[..at]);
 }

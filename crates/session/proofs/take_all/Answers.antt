@@ -1,6 +1,5 @@
-use Rattle.session.proofs.StandLaws.{begun, room-made, nearer, next, all-heard, part-heard}
+use Rattle.session.proofs.StandLaws.{begun, room-made, nearer, next, all-heard}
 use Rattle.std.proofs.Common.{refl, arith}
-use Rattle.std.proofs.lemmas.Result.{err_from_is_err_and}
 use Rattle.session.proofs.take_all.Goals as goal
 
 pub loop-done-init : goal.loop-done-init
@@ -14,14 +13,9 @@ pub take-e-requires : goal.take-e-requires
 take-e-requires g c =
     c.loop-done.invariant.stand.heard.ready
 
-pub make_room-requires : goal.make_room-requires
-make_room-requires g c =
+pub make_room-at-requires : goal.make_room-at-requires
+make_room-at-requires g c =
     room-made _ _ _ _ c.loop-done.invariant.stand c.take-e.ensures c.take-e.auto.out
-
-pub returns-in_err-at-clause-unwritten : goal.returns-in_err-at-clause-unwritten
-returns-in_err-at-clause-unwritten g c =
-    let p = err_from_is_err_and c.from_residual.result c.from_residual.ensures.1 in
-    rw p.1 (part-heard _ _ _ _ c.loop-done.invariant c.take-e.ensures c.take-e.auto.out)
 
 pub overflow_add-done : goal.overflow_add-done
 overflow_add-done g c =
@@ -33,7 +27,7 @@ loop-done-smaller g c =
 
 pub loop-done-preserved : goal.loop-done-preserved
 loop-done-preserved g c =
-    next _ _ _ _ c.loop-done.invariant c.take-e.ensures c.take-e.auto.out c.loop-done-test.true c.take-e.auto.line c.take-e.auto.name c.in_ok-at.ensures.room.1
+    next _ _ _ _ c.loop-done.invariant c.take-e.ensures c.take-e.auto.out c.loop-done-test.true c.take-e.auto.line c.take-e.auto.name c.make_room-at.ensures.1
 
-pub returns-clause-all : goal.returns-clause-all
-returns-clause-all g c = all-heard _ _ _ _ c.loop-done.invariant c.loop-done-test.false
+pub returns : goal.returns
+returns g c = all-heard _ _ _ _ c.loop-done.invariant c.loop-done-test.false
