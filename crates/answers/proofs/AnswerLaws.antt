@@ -1,4 +1,5 @@
 -- An answer as the code writes it.
+use Rattle.std.specs.Prelude.{Ok, Err}
 use Prim.Native.Nat.{ℕ, suc, ◌+◌, ◌-◌, ◌*◌, ◌^◌, ◌≤◌}
 use native.Mathlib.Omega.{arith}
 use mathlib.Core.Path.{◌≡◌, refl, sym, ap, ◌∙◌}
@@ -11,8 +12,9 @@ use lib.Signed.{mag, lt_z}
 use mir.Syntax.{w32}
 use mir.Val.{SFits}
 use Rattle.rules.specs.declared.Refusal.{Refusal}
-use Rattle.rules.specs.declared.Answer.{Answer}
-use Rattle.rules.specs.declared.Answer.TheVariants.{Done, Made, Handed, Reaped, Joined, Blocked, Refused}
+use Rattle.rules.specs.Types.{Answer}
+use Rattle.rules.specs.declared.Grant.{Grant}
+use Rattle.rules.specs.declared.Grant.TheVariants.{Done, Made, Handed, Reaped, Joined, Blocked}
 use Rattle.rules.specs.Answers.{number_of, values_of}
 use Rattle.promises.specs.Laws.Signs.{again, down, less-is, more, more-is}
 use Rattle.buffers.specs.Text.{put}
@@ -44,25 +46,29 @@ module _ (b : List ℕ) (at : ℕ) {a : Answer} {d : List ℕ} where
   pub by_answer : (x : Answer) → a ≡ x → d ≡ put b at (coded x) → d ≡ put b at (coded a)
   by_answer x e f = f ∙ ap (λ (y : Answer). put b at (coded y)) (sym e)
 
-  -- y is the status as it was handed on
-  pub joined_words : {x y : ℤ} {n : ℕ} → a ≡ Joined x → n ≡ word_of y → y ≡ x → d ≡ put b at (4 ∷ n ∷ 0 ∷ []) → d ≡ put b at (coded a)
+  pub refused-words : {r : Refusal} {n : ℕ} → a ≡ Err r → n ≡ number_of r → d ≡ put b at (6 ∷ n ∷ 0 ∷ []) → d ≡ put b at (coded a)
   unfolding coded values_of word_of
-  joined_words {x} {n = n} e g h f = by_answer (Joined x) e (f ∙ ap (λ (k : ℕ). put b at (4 ∷ k ∷ 0 ∷ [])) (g ∙ ap word_of h))
+  refused-words {r} e g f = by_answer (Err r) e (f ∙ ap (λ (k : ℕ). put b at (6 ∷ k ∷ 0 ∷ [])) g)
 
-  pub refused-words : {r : Refusal} {n : ℕ} → a ≡ Refused r → n ≡ number_of r → d ≡ put b at (6 ∷ n ∷ 0 ∷ []) → d ≡ put b at (coded a)
+module _ (b : List ℕ) (at : ℕ) {g : Grant} {d : List ℕ} where
+  pub by_grant : (x : Grant) → g ≡ x → d ≡ put b at (coded (Ok x)) → d ≡ put b at (coded (Ok g))
+  by_grant x e f = by_answer b at (Ok x) (ap (λ (y : Grant). Ok y) e) f
+
+  -- y is the status as it was handed on
+  pub joined_words : {x y : ℤ} {n : ℕ} → g ≡ Joined x → n ≡ word_of y → y ≡ x → d ≡ put b at (4 ∷ n ∷ 0 ∷ []) → d ≡ put b at (coded (Ok g))
   unfolding coded values_of word_of
-  refused-words {r} e g f = by_answer (Refused r) e (f ∙ ap (λ (k : ℕ). put b at (6 ∷ k ∷ 0 ∷ [])) g)
+  joined_words {x} {n = n} e i h f = by_grant (Joined x) e (f ∙ ap (λ (k : ℕ). put b at (4 ∷ k ∷ 0 ∷ [])) (i ∙ ap word_of h))
 
 -- ---- how long they are
 pub coded-length : (a : Answer) → length (coded a) ≡ answer_words
 unfolding coded values_of
-coded-length Done = refl
-coded-length (Made p) = refl
-coded-length (Handed s) = refl
-coded-length (Reaped p x) = refl
-coded-length (Joined x) = refl
-coded-length Blocked = refl
-coded-length (Refused r) = refl
+coded-length (Ok Done) = refl
+coded-length (Ok (Made p)) = refl
+coded-length (Ok (Handed s)) = refl
+coded-length (Ok (Reaped p x)) = refl
+coded-length (Ok (Joined x)) = refl
+coded-length (Ok Blocked) = refl
+coded-length (Err r) = refl
 
 pub codes-length : (l : List Answer) → length (codes l) ≡ length l * answer_words
 unfolding codes

@@ -1,6 +1,6 @@
 -- An answer in three words.
 use Rattle.std.specs.Prelude.{ℕ, suc, ◌-◌, ◌^◌, List, [], ◌∷◌, ◌++◌, map, take, ℤ, pos, negsuc}
-use Rattle.rules.specs.declared.Answer.{Answer}
+use Rattle.rules.specs.Types.{Answer}
 use Rattle.rules.specs.Answers.{values_of}
 
 -- a number, in two's complement of 64 bits if it is below 0

@@ -1,12 +1,12 @@
 // An answer in three words: which it is, and its values.
 #![tactic(auto)]
 
-ghost use Rattle.std.specs.Prelude.{◌≡◌, [], ◌∷◌, ◌+◌, ◌≤◌, length};
+ghost use Rattle.std.specs.Prelude.{◌≡◌, [], ◌∷◌, ◌+◌, ◌≤◌, length, Ok};
 ghost use Rattle.rules.specs.Answers.{number_of};
 ghost use Rattle.buffers.specs.Text.{put};
 ghost use Rattle.answers.specs.Words.{word_of, answer_words, coded};
 
-use rules::{Answer, Refusal};
+use rules::{Answer, Grant, Refusal};
 
 pub const WORDS: usize = 3;
 
@@ -54,17 +54,26 @@ pub fn put(b: &mut [u64], at: usize, x: u64, y: u64, z: u64)
     b[at + 2] = z;
 }
 
+fn write_grant(b: &mut [u64], at: usize, g: Grant)
+    requires { at + answer_words ≤ length b.old }
+    ensures { b.new ≡ put b.old at (coded (Ok g)) }
+{
+    match g {
+        Grant::Done => put(b, at, 0, 0, 0),
+        Grant::Made(p) => put(b, at, 1, p.0, 0),
+        Grant::Handed(s) => put(b, at, 2, s.0 as u64, 0),
+        Grant::Reaped(p, x) => put(b, at, 3, p.0, x),
+        Grant::Joined(x) => put(b, at, 4, word_of(x), 0),
+        Grant::Blocked => put(b, at, 5, 0, 0),
+    }
+}
+
 pub fn write(b: &mut [u64], at: usize, a: Answer)
     requires { at + answer_words ≤ length b.old }
     ensures { b.new ≡ put b.old at (coded a) }
 {
     match a {
-        Answer::Done => put(b, at, 0, 0, 0),
-        Answer::Made(p) => put(b, at, 1, p.0, 0),
-        Answer::Handed(s) => put(b, at, 2, s.0 as u64, 0),
-        Answer::Reaped(p, x) => put(b, at, 3, p.0, x),
-        Answer::Joined(x) => put(b, at, 4, word_of(x), 0),
-        Answer::Blocked => put(b, at, 5, 0, 0),
-        Answer::Refused(r) => put(b, at, 6, number_of(r), 0),
+        Ok(g) => write_grant(b, at, g),
+        Err(r) => put(b, at, 6, number_of(r), 0),
     }
 }

@@ -1,12 +1,12 @@
 -- An exported function by how many tables were lent, and by its arguments.
+use Rattle.std.specs.Prelude.{Option, Some, None}
 use Prim.Native.Nat.{ℕ}
 use native.Mathlib.Omega.{arith}
 use mathlib.Core.Path.{◌≡◌, refl}
 use mathlib.Core.Bool.{Bool, true, false}
-use mathlib.Core.Option.{Option, none, some}
 use mathlib.Core.List.{List, [], ◌∷◌}
 use lib.ListN.{length, get_or, set}
-use Rattle.rules.specs.declared.Answer.{Answer}
+use Rattle.rules.specs.Types.{Answer}
 use Rattle.rules.specs.Model.{Table, fresh}
 use Rattle.rules.specs.Runs.{Call}
 use Rattle.promises.specs.Order.Sound.{Sound}
@@ -31,11 +31,11 @@ all_one (w ∷ v ∷ l) e = absurd (omega (arith, e))
 
 -- ---- an argument in its range, and outside it
 module _ {F : Type 0} (b : Bool) (f : F) where
-  pub in-range : b ≡ true → allowed b f ≡ some f
+  pub in-range : b ≡ true → allowed b f ≡ Some f
   unfolding allowed
   in-range e = rw e
 
-  pub out_of_range : b ≡ false → allowed b f ≡ none
+  pub out_of_range : b ≡ false → allowed b f ≡ None
   unfolding allowed
   out_of_range e = rw e
 
@@ -64,24 +64,24 @@ module _ (ts : List (List ℕ)) (one : length ts ≡ 1) where
   renewed-one w e = record { leaves = leaves-set w (rw e.0); sound = λ _. set-sound w e.1 }
 
   -- ---- a call
-  pub answered : {c : Call} {b d : List ℕ} (w : List ℕ) {a : Answer} → Did c (table_of (get_or ts 0 [])) a (table_of w) → d ≡ coded a → Exported (some c) ts b 0 (set ts 0 w) d
+  pub answered : {c : Call} {b d : List ℕ} (w : List ℕ) {a : Answer} → Did c (table_of (get_or ts 0 [])) a (table_of w) → d ≡ coded a → Exported (Some c) ts b 0 (set ts 0 w) d
   unfolding done called
   answered w did e = record { leaves = leaves-set w (rw (e, did.answer, did.table)); sound = set-sound w did.sound }
 
-  pub not-called : (b : List ℕ) → InOrder ts → Exported none ts b 2 ts b
+  pub not-called : (b : List ℕ) → InOrder ts → Exported None ts b 2 ts b
   unfolding done kept
   not-called b s = record { leaves = leaves-same refl; sound = s }
 
   -- ---- a look
   module _ {A : Type 0} {a : A} where
-    pub seen_one : (f : Table → A) {d : A} → d ≡ f (table_of (get_or ts 0 [])) → Seen (some f) ts a 0 d
+    pub seen_one : (f : Table → A) {d : A} → d ≡ f (table_of (get_or ts 0 [])) → Seen (Some f) ts a 0 d
     unfolding done looked
     seen_one f e = record { leaves = leaves-same (rw e) }
 
-    pub unseen : Seen none ts a 2 a
+    pub unseen : Seen None ts a 2 a
     unfolding done kept
     unseen = record { leaves = leaves-same refl }
 
   -- a buffer, and the words that tell of it
-  pub text-seen : (f : Table → List ℕ × List ℕ) {a : List ℕ × List ℕ} {b d : List ℕ} → b ≡ (f (table_of (get_or ts 0 []))).0 → d ≡ (f (table_of (get_or ts 0 []))).1 → Seen (some f) ts a 0 (b, d)
+  pub text-seen : (f : Table → List ℕ × List ℕ) {a : List ℕ × List ℕ} {b d : List ℕ} → b ≡ (f (table_of (get_or ts 0 []))).0 → d ≡ (f (table_of (get_or ts 0 []))).1 → Seen (Some f) ts a 0 (b, d)
   text-seen f p q = seen_one f (rw (p, q))

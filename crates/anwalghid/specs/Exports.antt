@@ -1,8 +1,6 @@
 -- What an exported function leaves behind: a code, the lent tables, and what was lent beside them.
-use Rattle.std.specs.Prelude.{ℕ, ◌≡◌, ◌≢◌, Bool, cond, List, [], ◌∷◌, map, length}
+use Rattle.std.specs.Prelude.{ℕ, ◌≡◌, ◌≢◌, Bool, cond, List, [], ◌∷◌, map, length, Option, Some, None, option_map}
 use Rattle.std.proofs.Common.{sym, ap, ◌∙◌}
-use Rattle.std.proofs.Math.Option
-use Rattle.std.proofs.Math.Option.{Option, none, some}
 use Rattle.rules.specs.Model.{Table, fresh, at}
 use Rattle.rules.specs.Listing.{room_for, listed_buffer}
 use Rattle.rules.specs.Runs.{Call, step}
@@ -22,8 +20,8 @@ kept code ts a = record { code = code; tables = ts; lent = a }
 
 -- 0: f was done on the table; 2: there is no f, as an argument is outside its range
 unfoldable pub done : {A : Type 0} → Option (Table → Table × A) → Table → A → After A
-done (some f) t a = record { code = 0; tables = (f t).0 ∷ []; lent = (f t).1 }
-done none t a = kept 2 (t ∷ []) a
+done (Some f) t a = record { code = 0; tables = (f t).0 ∷ []; lent = (f t).1 }
+done None t a = kept 2 (t ∷ []) a
 
 -- 1: not one table was lent
 unfoldable pub on_one : {A : Type 0} → Option (Table → Table × A) → List Table → A → After A
@@ -43,7 +41,7 @@ leaves-once {A = A} f ts a us vs p q =
 
 -- none where an argument is outside its range
 unfoldable pub allowed : {F : Type 0} → Bool → F → Option F
-allowed b f = cond b (some f) none
+allowed b f = cond b (Some f) None
 
 -- the one table is in order; of another number nothing is asked
 unfoldable pub InOrder : List (List ℕ) → Type 0
@@ -56,7 +54,7 @@ unfoldable pub renewed : Table → Table × Unit {0}
 renewed t = (fresh, tt)
 
 pub record Renewed (ts : List (List ℕ)) (code : ℕ) (us : List (List ℕ)) : Type 0 where
-  pub leaves : Leaves (some renewed) ts tt code us tt
+  pub leaves : Leaves (Some renewed) ts tt code us tt
   pub sound : code ≡ 0 → InOrder us
 
 -- ---- a call, and its answer in three words
@@ -64,7 +62,7 @@ unfoldable pub called : Call → Table → Table × List ℕ
 called c t = ((step t c).table, coded (step t c).answer)
 
 pub record Exported (c : Option Call) (ts : List (List ℕ)) (a : List ℕ) (code : ℕ) (us : List (List ℕ)) (d : List ℕ) : Type 0 where
-  pub leaves : Leaves (Option.map called c) ts a code us d
+  pub leaves : Leaves (option_map called c) ts a code us d
   pub sound : InOrder us
 
 -- ---- a look, and the table as it was
@@ -72,7 +70,7 @@ unfoldable pub looked : {A : Type 0} → (Table → A) → Table → Table × A
 looked f t = (t, f t)
 
 pub record Seen {A : Type 0} (f : Option (Table → A)) (ts : List (List ℕ)) (a : A) (code : ℕ) (d : A) : Type 0 where
-  pub leaves : Leaves (Option.map looked f) ts a code ts d
+  pub leaves : Leaves (option_map looked f) ts a code ts d
 
 -- a text in the lent buffer, and three words that tell its length
 unfoldable pub listed : List ℕ → Table → List ℕ × List ℕ

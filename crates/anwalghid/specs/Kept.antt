@@ -1,12 +1,9 @@
 -- The promises over every list of calls, as promises about what is linked: a table made new and then called is the one that the calls make, and the words are their answers.
-use Rattle.std.specs.Prelude.{ℕ, ◌<◌, ◌≡◌, refl, ◌≢◌, Bool, true, false, cond, List, [], ◌∷◌, ◌++◌, map, length, eqb}
+use Rattle.std.specs.Prelude.{ℕ, ◌<◌, ◌≡◌, refl, ◌≢◌, Bool, true, false, cond, List, [], ◌∷◌, ◌++◌, map, length, eqb, Option, Some, None, option_map, Ok, Err}
 use Rattle.std.proofs.Common.{arith, sym, ◌∙◌, append_assoc, append-nil}
 use Rattle.std.proofs.Math.Path.{ap}
-use Rattle.std.proofs.Math.Option
-use Rattle.std.proofs.Math.Option.{Option, none, some}
-use Rattle.rules.specs.declared.Answer.{Answer}
-use Rattle.rules.specs.declared.Answer.TheVariants.{Done, Made, Handed, Reaped, Joined, Blocked, Refused}
-use Rattle.rules.specs.declared.Parent.TheVariants.{Nobody, Of}
+use Rattle.rules.specs.Types.{Answer}
+use Rattle.rules.specs.declared.Grant.TheVariants.{Done, Made, Handed, Reaped, Joined, Blocked}
 use Rattle.rules.specs.Sizes.{hart_count}
 use Rattle.rules.specs.Model.{Table, fresh, hart_at, slot}
 use Rattle.rules.specs.Answers.{values_of}
@@ -39,8 +36,8 @@ unfolding on_one done renewed run run_by
 renewed-reads w p = ap (λ (x : After (Unit {0})). x.tables) p.leaves.after
 
 -- ---- one call
-module _ (cs : List Call) {c : Call} {ts us : List (List ℕ)} {a d : List ℕ} (r : Reads ts cs) (p : Exported (some c) ts a 0 us d) where
-  after : ◌≡◌ {A = After (List ℕ)} (record { code = 0; tables = map table_of us; lent = d }) (on_one (some (called c)) (reached cs ∷ []) a)
+module _ (cs : List Call) {c : Call} {ts us : List (List ℕ)} {a d : List ℕ} (r : Reads ts cs) (p : Exported (Some c) ts a 0 us d) where
+  after : ◌≡◌ {A = After (List ℕ)} (record { code = 0; tables = map table_of us; lent = d }) (on_one (Some (called c)) (reached cs ∷ []) a)
   after = rw r at p.leaves.after
 
   -- code 0: the table is the one that this call makes of it ..
@@ -53,14 +50,14 @@ module _ (cs : List Call) {c : Call} {ts us : List (List ℕ)} {a d : List ℕ} 
   unfolding on_one done called
   exported-answers = ap (λ (x : After (List ℕ)). x.lent) after
 
-none-code : (ts : List Table) (a : List ℕ) → (on_one none ts a).code ≢ 0
+none-code : (ts : List Table) (a : List ℕ) → (on_one None ts a).code ≢ 0
 unfolding on_one done kept
 none-code [] a e = omega (arith, e)
 none-code (t ∷ []) a e = omega (arith, e)
 none-code (t ∷ u ∷ l) a e = omega (arith, e)
 
 -- code 0: an argument that has a range was in it
-pub exported-made : (b : Bool) {c : Call} {ts us : List (List ℕ)} {a d : List ℕ} → Exported (allowed b c) ts a 0 us d → Exported (some c) ts a 0 us d
+pub exported-made : (b : Bool) {c : Call} {ts us : List (List ℕ)} {a d : List ℕ} → Exported (allowed b c) ts a 0 us d → Exported (Some c) ts a 0 us d
 unfolding allowed
 exported-made true p = p
 exported-made false {ts = ts} {a = a} p = absurd (none-code (map table_of ts) a (sym (ap (λ (x : After (List ℕ)). x.code) p.leaves.after)))
@@ -68,20 +65,20 @@ exported-made false {ts = ts} {a = a} p = absurd (none-code (map table_of ts) a 
 lent-kept : {A : Type 0} (f : Option (Table → Table × A)) (ts : List Table) (a : A) → (on_one f ts a).code ≢ 0 → (on_one f ts a).lent ≡ a
 unfolding on_one done kept
 lent-kept f [] a n = refl
-lent-kept (some f) (t ∷ []) a n = absurd (n refl)
-lent-kept none (t ∷ []) a n = refl
+lent-kept (Some f) (t ∷ []) a n = absurd (n refl)
+lent-kept None (t ∷ []) a n = refl
 lent-kept f (t ∷ u ∷ l) a n = refl
 
 -- codes 1 and 2: no word of tables or answer is touched
 pub exported-leaves : (c : Option Call) {ts us : List (List ℕ)} {a d : List ℕ} {code : ℕ} → Exported c ts a code us d → code ≢ 0 → (us ≡ ts) × (d ≡ a)
 exported-leaves c {ts} {a = a} p n =
     let e = p.leaves.after in
-    (p.leaves.untouched n, ap (λ (x : After (List ℕ)). x.lent) e ∙ lent-kept (Option.map called c) (map table_of ts) a (λ z. n (ap (λ (x : After (List ℕ)). x.code) e ∙ z)))
+    (p.leaves.untouched n, ap (λ (x : After (List ℕ)). x.lent) e ∙ lent-kept (option_map called c) (map table_of ts) a (λ z. n (ap (λ (x : After (List ℕ)). x.code) e ∙ z)))
 
 -- ---- many calls, one after the other, from the tables ts to us: `cs` are those that were made, `ws` the words of their answers
 pub data Linked : List (List ℕ) → List Call → List (List ℕ) → List (List ℕ) → Type 0 where
   end : {ts : List (List ℕ)} → Linked ts [] [] ts
-  made : {c : Call} {cs : List Call} {ts us vs ws : List (List ℕ)} {a d : List ℕ} → Exported (some c) ts a 0 us d → Linked us cs ws vs → Linked ts (c ∷ cs) (d ∷ ws) vs
+  made : {c : Call} {cs : List Call} {ts us vs ws : List (List ℕ)} {a d : List ℕ} → Exported (Some c) ts a 0 us d → Linked us cs ws vs → Linked ts (c ∷ cs) (d ∷ ws) vs
   -- codes 1 and 2
   left : {c : Option Call} {cs : List Call} {ts us vs ws : List (List ℕ)} {a d : List ℕ} {code : ℕ} → Exported c ts a code us d → code ≢ 0 → Linked us cs ws vs → Linked ts cs ws vs
 
@@ -113,13 +110,13 @@ told (d ∷ ws) = told_by d ++ told ws
 told-coded : (l : List Answer) → told (map coded l) ≡ handed_out l
 unfolding told told_by coded values_of word_of handed_out
 told-coded [] = refl
-told-coded (Done ∷ l) = told-coded l
-told-coded (Made p ∷ l) = told-coded l
-told-coded (Handed s ∷ l) = ap (λ (k : List ℕ). s.0 ∷ k) (told-coded l)
-told-coded (Reaped p x ∷ l) = told-coded l
-told-coded (Joined x ∷ l) = told-coded l
-told-coded (Blocked ∷ l) = told-coded l
-told-coded (Refused r ∷ l) = told-coded l
+told-coded (Ok Done ∷ l) = told-coded l
+told-coded (Ok (Made p) ∷ l) = told-coded l
+told-coded (Ok (Handed s) ∷ l) = ap (λ (k : List ℕ). s.0 ∷ k) (told-coded l)
+told-coded (Ok (Reaped p x) ∷ l) = told-coded l
+told-coded (Ok (Joined x) ∷ l) = told-coded l
+told-coded (Ok Blocked ∷ l) = told-coded l
+told-coded (Err r ∷ l) = told-coded l
 
 module _ (before : List Call) {w v : List ℕ} (r : Reads (w ∷ []) before) where
   -- the slot with k ahead in the lent table w, where the words tell of the slots that the calls hand out, and v is the table then
@@ -133,8 +130,8 @@ module _ (before : List Call) {w v : List ℕ} (r : Reads (w ∷ []) before) whe
       rw (e, f, g, run-after fresh before cs) (first-in-first-out before cs k (rw e at here))
 
   -- the dispatch rule: while a slot waits, an idle hart is told the head; it runs there, and the rest stays in its order
-  pub linked-dispatch : (h s : ℕ) (rest : List ℕ) {a d : List ℕ} → Exported (some (dispatch h)) (w ∷ []) a 0 (v ∷ []) d → h < hart_count → hart_at (table_of w).core h ≡ Nobody → (table_of w).core.queue ≡ s ∷ rest
-      → (d ≡ 2 ∷ s ∷ 0 ∷ []) × (hart_at (table_of v).core h ≡ Of (slot s)) × ((table_of v).core.queue ≡ rest)
+  pub linked-dispatch : (h s : ℕ) (rest : List ℕ) {a d : List ℕ} → Exported (Some (dispatch h)) (w ∷ []) a 0 (v ∷ []) d → h < hart_count → hart_at (table_of w).core h ≡ None → (table_of w).core.queue ≡ s ∷ rest
+      → (d ≡ 2 ∷ s ∷ 0 ∷ []) × (hart_at (table_of v).core h ≡ Some (slot s)) × ((table_of v).core.queue ≡ rest)
   unfolding DispatchRule coded values_of word_of
   linked-dispatch h s rest p l i q =
       let e : table_of w ≡ reached before = cc in

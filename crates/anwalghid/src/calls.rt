@@ -1,5 +1,5 @@
 // Each call over lent tables. Its answer stands in three words; the code says whether it was made.
-ghost use Rattle.std.proofs.Math.Option.{some};
+ghost use Rattle.std.specs.Prelude.{Some};
 ghost use Rattle.rules.specs.Model.{pid};
 ghost use Rattle.rules.specs.Runs.{boot, start, spawn, system_return, fork, thread, dispatch, yield, sleep, wakeup, kill, wait, join, thread_exit, exit, grow};
 ghost use Rattle.codes.specs.Codes.{is_flag, yes, is_wish, wish_of, is_mapped, mapped_of};
@@ -15,7 +15,7 @@ pub extern "C" fn anwalghid_user_init(
     answer: &mut [u64; answers::WORDS],
 ) -> u64
     requires { InOrder tables.old }
-    ensures { Exported (some boot) tables.old answer.old result tables.new answer.new }
+    ensures { Exported (Some boot) tables.old answer.old result tables.new answer.new }
 {
     if tables.len() != 1 {
         return NOT_ONE_TABLE;
@@ -31,7 +31,7 @@ pub extern "C" fn anwalghid_start_init_process(
     answer: &mut [u64; answers::WORDS],
 ) -> u64
     requires { InOrder tables.old }
-    ensures { Exported (some start) tables.old answer.old result tables.new answer.new }
+    ensures { Exported (Some start) tables.old answer.old result tables.new answer.new }
 {
     if tables.len() != 1 {
         return NOT_ONE_TABLE;
@@ -49,7 +49,7 @@ pub extern "C" fn anwalghid_spawn_system_thread(
     answer: &mut [u64; answers::WORDS],
 ) -> u64
     requires { InOrder tables.old }
-    ensures { Exported (some (spawn name.now entry)) tables.old answer.old result tables.new answer.new }
+    ensures { Exported (Some (spawn name.now entry)) tables.old answer.old result tables.new answer.new }
 {
     if tables.len() != 1 {
         return NOT_ONE_TABLE;
@@ -66,7 +66,7 @@ pub extern "C" fn anwalghid_free_system_thread(
     answer: &mut [u64; answers::WORDS],
 ) -> u64
     requires { InOrder tables.old }
-    ensures { Exported (some (system_return hart)) tables.old answer.old result tables.new answer.new }
+    ensures { Exported (Some (system_return hart)) tables.old answer.old result tables.new answer.new }
 {
     if tables.len() != 1 {
         return NOT_ONE_TABLE;
@@ -135,7 +135,7 @@ pub extern "C" fn anwalghid_dequeue_runnable(
     answer: &mut [u64; answers::WORDS],
 ) -> u64
     requires { InOrder tables.old }
-    ensures { Exported (some (dispatch hart)) tables.old answer.old result tables.new answer.new }
+    ensures { Exported (Some (dispatch hart)) tables.old answer.old result tables.new answer.new }
 {
     if tables.len() != 1 {
         return NOT_ONE_TABLE;
@@ -152,7 +152,7 @@ pub extern "C" fn anwalghid_yielding(
     answer: &mut [u64; answers::WORDS],
 ) -> u64
     requires { InOrder tables.old }
-    ensures { Exported (some (yield hart)) tables.old answer.old result tables.new answer.new }
+    ensures { Exported (Some (yield hart)) tables.old answer.old result tables.new answer.new }
 {
     if tables.len() != 1 {
         return NOT_ONE_TABLE;
@@ -170,7 +170,7 @@ pub extern "C" fn anwalghid_sleep(
     answer: &mut [u64; answers::WORDS],
 ) -> u64
     requires { InOrder tables.old }
-    ensures { Exported (some (sleep hart channel)) tables.old answer.old result tables.new answer.new }
+    ensures { Exported (Some (sleep hart channel)) tables.old answer.old result tables.new answer.new }
 {
     if tables.len() != 1 {
         return NOT_ONE_TABLE;
@@ -187,7 +187,7 @@ pub extern "C" fn anwalghid_wake_up(
     answer: &mut [u64; answers::WORDS],
 ) -> u64
     requires { InOrder tables.old }
-    ensures { Exported (some (wakeup channel)) tables.old answer.old result tables.new answer.new }
+    ensures { Exported (Some (wakeup channel)) tables.old answer.old result tables.new answer.new }
 {
     if tables.len() != 1 {
         return NOT_ONE_TABLE;
@@ -204,7 +204,7 @@ pub extern "C" fn anwalghid_kill(
     answer: &mut [u64; answers::WORDS],
 ) -> u64
     requires { InOrder tables.old }
-    ensures { Exported (some (kill (pid p))) tables.old answer.old result tables.new answer.new }
+    ensures { Exported (Some (kill (pid p))) tables.old answer.old result tables.new answer.new }
 {
     if tables.len() != 1 {
         return NOT_ONE_TABLE;
@@ -265,7 +265,7 @@ pub extern "C" fn anwalghid_thread_exit(
     answer: &mut [u64; answers::WORDS],
 ) -> u64
     requires { InOrder tables.old }
-    ensures { Exported (some (thread_exit hart status)) tables.old answer.old result tables.new answer.new }
+    ensures { Exported (Some (thread_exit hart status)) tables.old answer.old result tables.new answer.new }
 {
     if tables.len() != 1 {
         return NOT_ONE_TABLE;
@@ -283,7 +283,7 @@ pub extern "C" fn anwalghid_exit(
     answer: &mut [u64; answers::WORDS],
 ) -> u64
     requires { InOrder tables.old }
-    ensures { Exported (some (exit hart status)) tables.old answer.old result tables.new answer.new }
+    ensures { Exported (Some (exit hart status)) tables.old answer.old result tables.new answer.new }
 {
     if tables.len() != 1 {
         return NOT_ONE_TABLE;

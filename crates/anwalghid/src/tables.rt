@@ -1,6 +1,5 @@
 // A fresh table, and what is seen of one: the listing, the whole table as text, a slot in ten words.
-ghost use Rattle.std.proofs.Math.Option.{some};
-ghost use Rattle.std.specs.Prelude.{ltb};
+ghost use Rattle.std.specs.Prelude.{ltb, Some};
 ghost use Rattle.rules.specs.Sizes.{slot_count};
 ghost use Rattle.anwalghid.specs.Exports.{Renewed, InOrder, allowed, Seen, listed, shown, slot_seen};
 
@@ -25,7 +24,7 @@ pub extern "C" fn anwalghid_proc_dump(
     buffer: &mut [u8],
     answer: &mut [u64; answers::WORDS],
 ) -> u64
-    ensures { Seen (some (listed buffer.old)) tables.now (buffer.old, answer.old) result (buffer.new, answer.new) }
+    ensures { Seen (Some (listed buffer.old)) tables.now (buffer.old, answer.old) result (buffer.new, answer.new) }
 {
     if tables.len() != 1 {
         return NOT_ONE_TABLE;
@@ -42,7 +41,7 @@ pub extern "C" fn anwalghid_show(
     answer: &mut [u64; answers::WORDS],
 ) -> u64
     requires { InOrder tables.now }
-    ensures { Seen (some (shown buffer.old)) tables.now (buffer.old, answer.old) result (buffer.new, answer.new) }
+    ensures { Seen (Some (shown buffer.old)) tables.now (buffer.old, answer.old) result (buffer.new, answer.new) }
 {
     if tables.len() != 1 {
         return NOT_ONE_TABLE;

@@ -9,8 +9,7 @@ ghost use Rattle.promises.specs.Order.Sound.{Sound};
 ghost use Rattle.promises.specs.Did.{Makes, Did};
 ghost use Rattle.words.specs.Reading.{table_of};
 
-use rules::{Answer, Group, Kin, Member, Parent, Pid, ProcState, Refusal, Slot};
-use taking::Got;
+use rules::{Answer, Grant, Group, Kin, Pid, ProcState, Refusal, Slot};
 use words::slot::StartWords;
 use words::{Table, book, slot};
 
@@ -24,8 +23,8 @@ fn boot_in(t: &mut [u64; Table::WORDS], i: usize) -> Answer
     let g = scans::new_group(t);
     let name = names::pack(b"initname");
     let k = Kin {
-        group: Member::In(g),
-        parent: Parent::Nobody,
+        group: Some(g),
+        parent: None,
         thread: false,
         system: false,
     };
@@ -48,8 +47,8 @@ fn boot_in(t: &mut [u64; Table::WORDS], i: usize) -> Answer
             count: 1,
         },
     );
-    book::set_init(t, Parent::Of(Slot(i)));
-    Answer::Made(Pid(n))
+    book::set_init(t, Some(Slot(i)));
+    Ok(Grant::Made(Pid(n)))
 }
 
 pub fn user_init(t: &mut [u64; Table::WORDS]) -> Answer
@@ -57,12 +56,12 @@ pub fn user_init(t: &mut [u64; Table::WORDS]) -> Answer
     ensures { Did boot (table_of t.old) result (table_of t.new) }
 {
     let p = book::init(t);
-    if let Parent::Of(_) = p {
-        return Answer::Refused(Refusal::InitOutOfTurn);
+    if let Some(_) = p {
+        return Err(Refusal::InitOutOfTurn);
     }
     match taking::alloc_proc(t) {
-        Got::No(n) => Answer::Refused(n),
-        Got::Is(i) => boot_in(t, i),
+        Err(n) => Err(n),
+        Ok(i) => boot_in(t, i),
     }
 }
 
@@ -71,15 +70,15 @@ pub fn start_init_process(t: &mut [u64; Table::WORDS]) -> Answer
     ensures { Did start (table_of t.old) result (table_of t.new) }
 {
     let p = book::init(t);
-    let Parent::Of(init) = p else {
-        return Answer::Refused(Refusal::InitOutOfTurn);
+    let Some(init) = p else {
+        return Err(Refusal::InitOutOfTurn);
     };
     let i = init.0;
     if scans::is(t, i, ProcState::ALLOCATED) {
         moves::make_runnable(t, i);
-        return Answer::Done;
+        return Ok(Grant::Done);
     }
-    Answer::Refused(Refusal::InitOutOfTurn)
+    Err(Refusal::InitOutOfTurn)
 }
 
 fn spawn_in(t: &mut [u64; Table::WORDS], name: &[u8], entry: u64, i: usize) -> Answer
@@ -89,8 +88,8 @@ fn spawn_in(t: &mut [u64; Table::WORDS], name: &[u8], entry: u64, i: usize) -> A
     let n = book::pids(t);
     let w = names::pack(name);
     let k = Kin {
-        group: Member::Alone,
-        parent: Parent::Nobody,
+        group: None,
+        parent: None,
         thread: false,
         system: true,
     };
@@ -106,7 +105,7 @@ fn spawn_in(t: &mut [u64; Table::WORDS], name: &[u8], entry: u64, i: usize) -> A
     };
     taking::fill(t, i, n, k, b);
     moves::make_runnable(t, i);
-    Answer::Made(Pid(n))
+    Ok(Grant::Made(Pid(n)))
 }
 
 pub fn spawn_system_thread(t: &mut [u64; Table::WORDS], name: &[u8], entry: u64) -> Answer
@@ -114,11 +113,11 @@ pub fn spawn_system_thread(t: &mut [u64; Table::WORDS], name: &[u8], entry: u64)
     ensures { Did (spawn name.now entry) (table_of t.old) result (table_of t.new) }
 {
     if name.len() > NAME_SIZE {
-        return Answer::Refused(Refusal::NameTooLong);
+        return Err(Refusal::NameTooLong);
     }
     match taking::alloc_proc(t) {
-        Got::No(n) => Answer::Refused(n),
-        Got::Is(i) => spawn_in(t, name, entry, i),
+        Err(n) => Err(n),
+        Ok(i) => spawn_in(t, name, entry, i),
     }
 }
 
@@ -131,9 +130,9 @@ fn return_by(t: &mut [u64; Table::WORDS], hart: usize, caller: usize) -> Answer
     if k.system {
         moves::idle(t, hart);
         taking::free_proc(t, caller);
-        return Answer::Done;
+        return Ok(Grant::Done);
     }
-    Answer::Refused(Refusal::WrongWayOut)
+    Err(Refusal::WrongWayOut)
 }
 
 pub fn free_system_thread(t: &mut [u64; Table::WORDS], hart: usize) -> Answer
@@ -142,7 +141,7 @@ pub fn free_system_thread(t: &mut [u64; Table::WORDS], hart: usize) -> Answer
 {
     let c = taking::caller_on(t, hart);
     match c {
-        Got::No(n) => Answer::Refused(n),
-        Got::Is(caller) => return_by(t, hart, caller),
+        Err(n) => Err(n),
+        Ok(caller) => return_by(t, hart, caller),
     }
 }

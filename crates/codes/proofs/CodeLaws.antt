@@ -1,9 +1,9 @@
 -- A call as the code reads it.
+use Rattle.std.specs.Prelude.{Ok, Option, None}
 use Prim.Native.Nat.{ℕ, suc, ◌-◌, ◌^◌, ◌≤◌}
 use native.Mathlib.Omega.{arith}
 use mathlib.Core.Path.{◌≡◌, refl, sym, ap, ◌∙◌, subst}
 use mathlib.Core.Bool.{Bool, true, false, cond}
-use mathlib.Core.Option.{Option, none}
 use lib.ListN.{get_or-eq_default}
 use lib.Dec.{ltb}
 use lib.IntN.{ℤ, pos, negsuc, ◌-ℤ◌}
@@ -36,6 +36,6 @@ signed_high n b = let y : ℕ = 2 ^ 64 - 1 - n in let e : y ≡ 2 ^ 64 - suc n =
 pub past : {n k : ℕ} → n ≤ k → (k ≡ n → ⊥) → suc n ≤ k
 past l d = omega arith
 
-pub numbered-none : (n : ℕ) (w : ℕ → ℕ) → 16 ≤ n → none ≡ call_numbered n w
+pub numbered-none : (n : ℕ) (w : ℕ → ℕ) → 16 ≤ n → None ≡ call_numbered n w
 unfolding call_numbered calls
-numbered-none n w h = ap (λ (g : (ℕ → ℕ) → Option Call). g w) (sym (get_or-eq_default calls (λ _. none) h))
+numbered-none n w h = ap (λ (g : (ℕ → ℕ) → Option Call). g w) (sym (get_or-eq_default calls (λ _. None) h))

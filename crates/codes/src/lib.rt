@@ -4,19 +4,12 @@
 ghost use Rattle.std.specs.Prelude.{◌≡◌, ◌≤◌, length, get_or};
 ghost use Rattle.rules.specs.Model.{pid};
 ghost use Rattle.steps.specs.declared.Call.TheVariants.{Fork, Thread, Wait, Join, Grow};
-ghost use Rattle.codes.specs.Codes.{signed_of, call_words, is_flag, yes, is_wish, wish_of, is_mapped, mapped_of, only_if, call_numbered, call_in, as_option};
+ghost use Rattle.codes.specs.Codes.{signed_of, call_words, is_flag, yes, is_wish, wish_of, is_mapped, mapped_of, only_if, call_numbered, call_in};
 
 use rules::{Mapped, Pid, ThreadAsk, Wish};
 use steps::Call;
 
 pub const WORDS: usize = 8;
-
-// A call, or none.
-#[derive(Clone, Copy)]
-pub enum Read {
-    No,
-    Is(Call),
-}
 
 // Two's complement.
 fn signed_of(n: u64) -> i64
@@ -38,44 +31,44 @@ pub fn wish_of(n: u64) -> Wish
     }
 }
 
-fn fork(hart: u64, memory: u64) -> Read
-    ensures { as_option result ≡ only_if (is_flag memory) (Fork hart (yes memory)) }
+fn fork(hart: u64, memory: u64) -> Option<Call>
+    ensures { result ≡ only_if (is_flag memory) (Fork hart (yes memory)) }
 {
     if memory >= 2 {
-        return Read::No;
+        return None;
     }
-    Read::Is(Call::Fork(hart as usize, memory == 1))
+    Some(Call::Fork(hart as usize, memory == 1))
 }
 
-fn wait(hart: u64, w: u64) -> Read
-    ensures { as_option result ≡ only_if (is_wish w) (Wait hart (wish_of w)) }
+fn wait(hart: u64, w: u64) -> Option<Call>
+    ensures { result ≡ only_if (is_wish w) (Wait hart (wish_of w)) }
 {
     if w >= 3 {
-        return Read::No;
+        return None;
     }
     let wish = wish_of(w);
-    Read::Is(Call::Wait(hart as usize, wish))
+    Some(Call::Wait(hart as usize, wish))
 }
 
-fn join(hart: u64, p: u64, w: u64) -> Read
-    ensures { as_option result ≡ only_if (is_wish w) (Join hart (pid p) (wish_of w)) }
+fn join(hart: u64, p: u64, w: u64) -> Option<Call>
+    ensures { result ≡ only_if (is_wish w) (Join hart (pid p) (wish_of w)) }
 {
     if w >= 3 {
-        return Read::No;
+        return None;
     }
     let wish = wish_of(w);
     let p = Pid(p);
-    Read::Is(Call::Join(hart as usize, p, wish))
+    Some(Call::Join(hart as usize, p, wish))
 }
 
-fn grow(hart: u64, count: u64, memory: u64) -> Read
-    ensures { as_option result ≡ only_if (is_flag memory) (Grow hart (signed_of count) (yes memory)) }
+fn grow(hart: u64, count: u64, memory: u64) -> Option<Call>
+    ensures { result ≡ only_if (is_flag memory) (Grow hart (signed_of count) (yes memory)) }
 {
     if memory >= 2 {
-        return Read::No;
+        return None;
     }
     let count = signed_of(count);
-    Read::Is(Call::Grow(hart as usize, count, memory == 1))
+    Some(Call::Grow(hart as usize, count, memory == 1))
 }
 
 pub fn mapped_of(n: u64) -> Mapped
@@ -89,14 +82,14 @@ pub fn mapped_of(n: u64) -> Mapped
     }
 }
 
-fn thread(hart: u64, ask: ThreadAsk, mapped: u64) -> Read
-    ensures { as_option result ≡ only_if (is_mapped mapped) (Thread hart ask (mapped_of mapped)) }
+fn thread(hart: u64, ask: ThreadAsk, mapped: u64) -> Option<Call>
+    ensures { result ≡ only_if (is_mapped mapped) (Thread hart ask (mapped_of mapped)) }
 {
     if mapped >= 16 {
-        return Read::No;
+        return None;
     }
     let m = mapped_of(mapped);
-    Read::Is(Call::Thread(hart as usize, ask, m))
+    Some(Call::Thread(hart as usize, ask, m))
 }
 
 fn ask_of(w: &[u64]) -> ThreadAsk
@@ -111,37 +104,37 @@ fn ask_of(w: &[u64]) -> ThreadAsk
     }
 }
 
-fn numbered(n: u64, w: &[u64]) -> Read
+fn numbered(n: u64, w: &[u64]) -> Option<Call>
     requires { call_words ≤ length w.now }
-    ensures { as_option result ≡ call_numbered n (λ i. get_or w.now i 0) }
+    ensures { result ≡ call_numbered n (λ i. get_or w.now i 0) }
 {
     match n {
-        0 => Read::Is(Call::Boot),
-        1 => Read::Is(Call::Start),
-        2 => Read::Is(Call::Spawn(w[1] as usize, w[2] as usize, w[3])),
-        3 => Read::Is(Call::SystemReturn(w[1] as usize)),
+        0 => Some(Call::Boot),
+        1 => Some(Call::Start),
+        2 => Some(Call::Spawn(w[1] as usize, w[2] as usize, w[3])),
+        3 => Some(Call::SystemReturn(w[1] as usize)),
         4 => fork(w[1], w[2]),
         5 => thread(w[1], ask_of(w), w[6]),
-        6 => Read::Is(Call::Dispatch(w[1] as usize)),
-        7 => Read::Is(Call::Yield(w[1] as usize)),
-        8 => Read::Is(Call::Sleep(w[1] as usize, w[2])),
-        9 => Read::Is(Call::Wakeup(w[1])),
-        10 => Read::Is(Call::Kill(Pid(w[1]))),
+        6 => Some(Call::Dispatch(w[1] as usize)),
+        7 => Some(Call::Yield(w[1] as usize)),
+        8 => Some(Call::Sleep(w[1] as usize, w[2])),
+        9 => Some(Call::Wakeup(w[1])),
+        10 => Some(Call::Kill(Pid(w[1]))),
         11 => wait(w[1], w[2]),
         12 => join(w[1], w[2], w[3]),
-        13 => Read::Is(Call::ThreadExit(w[1] as usize, w[2])),
-        14 => Read::Is(Call::Exit(w[1] as usize, w[2])),
+        13 => Some(Call::ThreadExit(w[1] as usize, w[2])),
+        14 => Some(Call::Exit(w[1] as usize, w[2])),
         15 => grow(w[1], w[2], w[3]),
-        _ => Read::No,
+        _ => None,
     }
 }
 
 // The call at the front of the words.
-pub fn first(w: &[u64]) -> Read
-    ensures { as_option result ≡ call_in w.now }
+pub fn first(w: &[u64]) -> Option<Call>
+    ensures { result ≡ call_in w.now }
 {
     if w.len() < WORDS {
-        return Read::No;
+        return None;
     }
     numbered(w[0], w)
 }

@@ -1,4 +1,5 @@
 -- A line's answer, by what the line means.
+use Rattle.std.specs.Prelude.{Ok, Err}
 use Prim.Native.Nat.{ℕ, ◌+◌, ◌≤◌}
 use native.Mathlib.Omega.{arith}
 use mathlib.Core.Path.{◌≡◌, refl, sym, ap, ◌∙◌}
@@ -6,8 +7,7 @@ use mathlib.Core.List.{List}
 use lib.ListN.{length}
 use Rattle.rules.specs.declared.Refusal.{Refusal}
 use Rattle.rules.specs.declared.Refusal.TheVariants.{NoRoom}
-use Rattle.rules.specs.declared.Answer.TheVariants.{Done, Refused}
-use Rattle.rules.specs.declared.Room.TheVariants.{Fits, Short}
+use Rattle.rules.specs.declared.Grant.TheVariants.{Done}
 use Rattle.rules.specs.Sizes.{name_size, line_top, listing_top}
 use Rattle.rules.specs.Listing.{listing, room_for}
 use Rattle.promises.specs.Order.Sound.{Sound}
@@ -34,11 +34,11 @@ module _ (t : Table) (w : Sound t) where
   list-room b at h = omega (arith, short)
 
   module _ (room : ℕ) {b d : List ℕ} {at end : ℕ} where
-    pub list-fits : {n : ℕ} → Fits n ≡ room_for t room → Wrote b at (listing t) d end → Wrote b at (text_for t 0 (listed room)) d end × (end ≤ at + desk_top)
+    pub list-fits : {n : ℕ} → Ok n ≡ room_for t room → Wrote b at (listing t) d end → Wrote b at (text_for t 0 (listed room)) d end × (end ≤ at + desk_top)
     unfolding text_for
     list-fits e v = (rw (fits_told t _ room e).0 v, omega (arith, v.place, short))
 
-    pub list-short : {r : Refusal} → Short r ≡ room_for t room → Wrote b at (answer_text (Refused NoRoom)) d end → end ≤ at + answer_top
+    pub list-short : {r : Refusal} → Err r ≡ room_for t room → Wrote b at (answer_text (Err NoRoom)) d end → end ≤ at + answer_top
         → Wrote b at (text_for t 0 (listed room)) d end × (end ≤ at + desk_top)
     unfolding text_for name_size
     list-short {r} e v h = (rw (short-told t r room e) v, omega arith)
@@ -66,7 +66,7 @@ module _ (t : Table) (number : ℕ) (m : Meaning) (b : List ℕ) (at : ℕ) wher
     unfolding table_after text_for
     show-made e w v h = answered-by shows e refl w v h
 
-    pub fresh-made : renews ≡ m → {u : Table} → u ≡ fresh → Sound u → Wrote b at (answer_text Done) d end → end ≤ at + answer_top → Answered t number m u b at d end
+    pub fresh-made : renews ≡ m → {u : Table} → u ≡ fresh → Sound u → Wrote b at (answer_text (Ok Done)) d end → end ≤ at + answer_top → Answered t number m u b at d end
     unfolding table_after text_for name_size
     fresh-made e f w v h = answered-by renews e f w v (omega arith)
 

@@ -1,7 +1,7 @@
 -- A line answered: what it does to the table, and the text that comes back.
-use Rattle.std.specs.Prelude.{ℕ, ◌+◌, ◌≤◌, ◌≡◌, cond, List, [], ◌++◌}
+use Rattle.std.specs.Prelude.{ℕ, ◌+◌, ◌≤◌, ◌≡◌, cond, List, [], ◌++◌, Ok, Err}
 use Rattle.rules.specs.declared.Refusal.TheVariants.{NoRoom}
-use Rattle.rules.specs.declared.Answer.TheVariants.{Done, Refused}
+use Rattle.rules.specs.declared.Grant.TheVariants.{Done}
 use Rattle.rules.specs.Model.{Table, fresh}
 use Rattle.rules.specs.Listing.{bytes, listing, fits_in}
 use Rattle.rules.specs.Runs.{Call, step}
@@ -39,9 +39,9 @@ table_after t (misread why) = t
 unfoldable pub text_for : Table → ℕ → Meaning → List ℕ
 text_for t number passed = []
 text_for t number (called c) = answer_text (step t c).answer
-text_for t number (listed room) = cond (fits_in t room) (listing t) (answer_text (Refused NoRoom))
+text_for t number (listed room) = cond (fits_in t room) (listing t) (answer_text (Err NoRoom))
 text_for t number shows = show_text t
-text_for t number renews = answer_text Done
+text_for t number renews = answer_text (Ok Done)
 text_for t number (misread why) = misread_text number why
 
 -- at the longest: the reason by itself; a label, 20 digits, the reason and the ends; all slots in use shown

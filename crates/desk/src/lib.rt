@@ -2,7 +2,7 @@
 #![tactic(auto)]
 
 ghost use Rattle.std.specs.Prelude.{◌+◌, ◌≤◌, length};
-ghost use Rattle.rules.specs.declared.Answer.TheVariants.{Done};
+ghost use Rattle.rules.specs.declared.Grant.TheVariants.{Done};
 ghost use Rattle.promises.specs.Order.Sound.{Sound};
 ghost use Rattle.words.specs.Reading.{table_of};
 ghost use Rattle.buffers.specs.Text.{Wrote};
@@ -12,7 +12,7 @@ ghost use Rattle.lines.specs.Meaning.{means, listed};
 ghost use Rattle.desk.specs.Desk.{why_text, misread_text, text_for, why_top, misread_top, desk_top, Performed, Answered};
 
 use lines::{Said, Why};
-use rules::{Answer, Refusal, Room};
+use rules::{Grant, Refusal};
 use steps::Call;
 use words::Table;
 
@@ -50,8 +50,8 @@ fn write_list(t: &[u64; Table::WORDS], out: &mut [u8], at: usize, room: u64) -> 
     ensures { Wrote out.old at (text_for (table_of t.now) 0 (listed room)) out.new result × (result ≤ at + desk_top) }
 {
     match listing::room_for(t, room as usize) {
-        Room::Fits(_) => listing::write_listing(t, out, at),
-        Room::Short(_) => texts::write_answer(out, at, Answer::Refused(Refusal::NoRoom)),
+        Ok(_) => listing::write_listing(t, out, at),
+        Err(_) => texts::write_answer(out, at, Err(Refusal::NoRoom)),
     }
 }
 
@@ -84,7 +84,7 @@ pub fn answer(
         Said::Show => shows::write_show(t, out, at),
         Said::Fresh => {
             words::renew(t);
-            texts::write_answer(out, at, Answer::Done)
+            texts::write_answer(out, at, Ok(Grant::Done))
         }
         Said::Misread(why) => write_misread(out, at, number, why),
     }

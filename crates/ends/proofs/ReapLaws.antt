@@ -1,65 +1,60 @@
 -- The ZOMBIE threads of a group, reaped one look after the other.
+use Rattle.std.specs.Prelude.{Some, None, Option}
 use Prim.Native.Nat.{ℕ, zero, suc, ◌+◌, ◌≤◌}
 use native.Mathlib.Omega.{arith}
 use native.Mathlib.Numerals.{add-one}
 use mathlib.Core.Path.{◌≡◌, refl, sym, ap, ◌∙◌}
 use mathlib.Core.Bool.{Bool, true, false}
-use mathlib.Core.Option.{Option, none, some}
 use lib.Dec.{leb}
 use borrow.Author.Tests.{leb-true, leb-false}
 use Rattle.rules.specs.declared.ProcState.TheVariants.{ZOMBIE}
-use Rattle.rules.specs.declared.Member.{Member}
 use Rattle.rules.specs.Sizes.{slot_count}
 use Rattle.rules.specs.Model.{Table, at, is}
 use Rattle.rules.specs.Moves.{sweep, lowest, reap}
 use Rattle.rules.specs.Calls.{thread_of, reap_if_zombie, reap_first, reap_threads}
-use Rattle.scans.specs.declared.Found.{Found}
-use Rattle.scans.specs.declared.Found.TheVariants.{At, Nothing}
-use Rattle.scans.specs.declared.Test.TheVariants.{ThreadOf}
-use Rattle.scans.specs.Tests.{passes, as_option}
 use Rattle.ends.specs.Looks.{is_zombie, first_is_zombie}
 
 -- ---- one look
-module _ (m : Member) (t : Table) (r : Found) (q : as_option r ≡ lowest (passes (ThreadOf m)) t.core.slots) where
+module _ (m : Option ℕ) (t : Table) (r : Option ℕ) (q : r ≡ lowest (thread_of m) t.core.slots) where
   -- u is the table after a look, b whether it reaped
   abbrev Looked : Table → Bool → Type 0
   Looked u b = (u ≡ reap_first m t) × (b ≡ first_is_zombie m t)
 
-  looked : (x : Found) → x ≡ r → Looked (reap_if_zombie t (as_option x)) (is_zombie t (as_option x))
-  unfolding reap_first first_is_zombie passes
-  looked x z = (ap (reap_if_zombie t) (ap as_option z ∙ q), ap (is_zombie t) (ap as_option z ∙ q))
+  looked : (x : Option ℕ) → x ≡ r → Looked (reap_if_zombie t x) (is_zombie t x)
+  unfolding reap_first first_is_zombie
+  looked x z = (ap (reap_if_zombie t) (z ∙ q), ap (is_zombie t) (z ∙ q))
 
-  pub look_none : Nothing ≡ r → Looked t false
+  pub look_none : None ≡ r → Looked t false
   unfolding reap_if_zombie is_zombie
-  look_none z = looked Nothing z
+  look_none z = looked None z
 
-  module _ {i : ℕ} (z : At i ≡ r) where
+  module _ {i : ℕ} (z : Some i ≡ r) where
     pub look-live : is ZOMBIE (at t.core i) ≡ false → Looked t false
     unfolding reap_if_zombie is_zombie
-    look-live e = rw e at (looked (At i) z)
+    look-live e = rw e at (looked (Some i) z)
 
     pub look-reaps : {u : Table} → is ZOMBIE (at t.core i) ≡ true → u ≡ reap i t → Looked u true
     unfolding reap_if_zombie is_zombie
-    look-reaps e f = let l = rw e at (looked (At i) z) in (f ∙ l.0, l.1)
+    look-reaps e f = let l = rw e at (looked (Some i) z) in (f ∙ l.0, l.1)
 
 -- ---- look after look
-abbrev pub looks : Member → ℕ → Table → Table
+abbrev pub looks : Option ℕ → ℕ → Table → Table
 looks m n t = sweep (λ _. reap_first m) n t
 
-pub looks-none : (m : Member) (t : Table) → t ≡ looks m 0 t
+pub looks-none : (m : Option ℕ) (t : Table) → t ≡ looks m 0 t
 unfolding sweep
 looks-none m t = refl
 
-pub looks-more : (m : Member) (t : Table) (n : ℕ) {a b : Table} → b ≡ reap_first m a → a ≡ looks m n t → b ≡ looks m (n + 1) t
+pub looks-more : (m : Option ℕ) (t : Table) (n : ℕ) {a b : Table} → b ≡ reap_first m a → a ≡ looks m n t → b ≡ looks m (n + 1) t
 unfolding sweep
 looks-more m t n e i = rw add-one (e ∙ ap (reap_first m) i)
 
-pub looks-all : (m : Member) (t : Table) {u : Table} → u ≡ looks m slot_count t → u ≡ reap_threads m t
+pub looks-all : (m : Option ℕ) (t : Table) {u : Table} → u ≡ looks m slot_count t → u ≡ reap_threads m t
 unfolding reap_threads
 looks-all m t e = e
 
 -- once a look changes nothing, no further one does
-still : (m : Member) (t : Table) (i n : ℕ) → i ≤ n → looks m i t ≡ reap_first m (looks m i t) → looks m i t ≡ looks m n t
+still : (m : Option ℕ) (t : Table) (i n : ℕ) → i ≤ n → looks m i t ≡ reap_first m (looks m i t) → looks m i t ≡ looks m n t
 unfolding sweep
 still m t i zero b e = let z : i ≡ 0 = omega arith in rw z
 still m t i (suc n) b e = go (leb i n) refl (λ r. still m t i n r e)
@@ -69,14 +64,14 @@ still m t i (suc n) b e = go (leb i n) refl (λ r. still m t i n r e)
     go false f k = let z : i ≡ suc n = omega (arith, leb-false i n f) in rw z
 
 -- .. and a look that finds no ZOMBIE changes nothing
-idle-look : (m : Member) (t : Table) → false ≡ first_is_zombie m t → reap_first m t ≡ t
+idle-look : (m : Option ℕ) (t : Table) → false ≡ first_is_zombie m t → reap_first m t ≡ t
 unfolding reap_first first_is_zombie
 idle-look m t e = go (lowest (thread_of m) t.core.slots) e
   where
     go : (o : Option ℕ) → false ≡ is_zombie t o → reap_if_zombie t o ≡ t
-    go none e = unfold reap_if_zombie in refl
-    go (some i) e = unfold reap_if_zombie is_zombie in rw (sym e)
+    go None e = unfold reap_if_zombie in refl
+    go (Some i) e = unfold reap_if_zombie is_zombie in rw (sym e)
 
-pub looks-still : (m : Member) (t : Table) (i : ℕ) {a b : Table} → i ≤ slot_count → a ≡ looks m i t → b ≡ reap_first m a → false ≡ first_is_zombie m a → b ≡ reap_threads m t
+pub looks-still : (m : Option ℕ) (t : Table) (i : ℕ) {a b : Table} → i ≤ slot_count → a ≡ looks m i t → b ≡ reap_first m a → false ≡ first_is_zombie m a → b ≡ reap_threads m t
 unfolding reap_threads
 looks-still m t i {a} r e f g = let h = idle-look m a g in f ∙ h ∙ e ∙ still m t i slot_count r (sym e ∙ sym h ∙ ap (reap_first m) e)

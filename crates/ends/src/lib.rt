@@ -1,8 +1,7 @@
 // Exit and thread exit.
 #![tactic(auto)]
 
-ghost use Rattle.std.specs.Prelude.{◌≡◌, ◌<◌};
-ghost use Rattle.std.proofs.Math.Option.{none, some};
+ghost use Rattle.std.specs.Prelude.{◌≡◌, ◌<◌, Some, None};
 ghost use Rattle.rules.specs.Sizes.{slot_count, hart_count};
 ghost use Rattle.rules.specs.Model.{is_slot};
 ghost use Rattle.rules.specs.Calls.{reap_first, reap_threads, exited_past, leader_exited, thread_ended, exited_by, thread_exited_by, stays};
@@ -12,17 +11,15 @@ ghost use Rattle.promises.specs.Did.{Makes, Did};
 ghost use Rattle.words.specs.Reading.{table_of};
 ghost use Rattle.ends.specs.Looks.{first_is_zombie};
 
-use rules::{Answer, Member, Parent, ProcState, Refusal};
-use scans::{Found, Test};
-use taking::Got;
+use rules::{Answer, Grant, ProcState, Refusal, Slot};
 use words::{Table, book, slot};
 
 // ---- the threads of a process
 // The lowest thread slot of the group, if ZOMBIE, is reaped; was one?
-fn reap_first(t: &mut [u64; Table::WORDS], m: Member) -> bool
+fn reap_first(t: &mut [u64; Table::WORDS], m: Option<usize>) -> bool
     ensures { (table_of t.new ≡ reap_first m (table_of t.old)) × (result ≡ first_is_zombie m (table_of t.old)) }
 {
-    let Found::At(i) = scans::find(t, Test::ThreadOf(m)) else {
+    let Some(i) = scans::thread_of(t, m) else {
         return false;
     };
     if scans::is(t, i, ProcState::ZOMBIE) {
@@ -32,7 +29,7 @@ fn reap_first(t: &mut [u64; Table::WORDS], m: Member) -> bool
     false
 }
 
-fn reap_threads(t: &mut [u64; Table::WORDS], m: Member)
+fn reap_threads(t: &mut [u64; Table::WORDS], m: Option<usize>)
     ensures { table_of t.new ≡ reap_threads m (table_of t.old) }
 {
     for _ in 0..Table::SLOTS {
@@ -51,23 +48,23 @@ fn await_thread(
     i: usize,
 ) -> Answer
     requires { (hart < hart_count) × (caller < slot_count) × (i < slot_count) × Queued (table_of t.old).core }
-    ensures { Makes (exited_past (table_of t.old) hart status caller (some i)) result (table_of t.new) }
+    ensures { Makes (exited_past (table_of t.old) hart status caller (Some i)) result (table_of t.new) }
 {
     wakes::slay(t, i);
     moves::sleep_on(t, hart, caller, moves::own_channel(i));
-    Answer::Blocked
+    Ok(Grant::Blocked)
 }
 
 fn depart(t: &mut [u64; Table::WORDS], hart: usize, status: u64, caller: usize) -> Answer
     requires { (hart < hart_count) × (caller < slot_count) × Queued (table_of t.old).core }
-    ensures { Makes (exited_past (table_of t.old) hart status caller none) result (table_of t.new) }
+    ensures { Makes (exited_past (table_of t.old) hart status caller None) result (table_of t.new) }
 {
     wakes::reparent(t, caller);
     let k = slot::kin_at(t, caller);
     let parent = k.parent;
     wakes::wake_of(t, parent);
     moves::zombie_on(t, hart, caller, status);
-    Answer::Done
+    Ok(Grant::Done)
 }
 
 fn exit_leader(t: &mut [u64; Table::WORDS], hart: usize, status: u64, caller: usize) -> Answer
@@ -77,9 +74,9 @@ fn exit_leader(t: &mut [u64; Table::WORDS], hart: usize, status: u64, caller: us
     let k = slot::kin_at(t, caller);
     let group = k.group;
     reap_threads(t, group);
-    match scans::find(t, Test::ThreadOf(group)) {
-        Found::At(i) => await_thread(t, hart, status, caller, i),
-        Found::Nothing => depart(t, hart, status, caller),
+    match scans::thread_of(t, group) {
+        Some(i) => await_thread(t, hart, status, caller, i),
+        None => depart(t, hart, status, caller),
     }
 }
 
@@ -90,16 +87,16 @@ fn exit_thread(t: &mut [u64; Table::WORDS], hart: usize, status: u64, caller: us
     wakes::reparent(t, caller);
     wakes::wake_up(t, moves::own_channel(caller));
     moves::zombie_on(t, hart, caller, status);
-    Answer::Done
+    Ok(Grant::Done)
 }
 
 // ---- the calls
-fn is_slot(i: usize, p: Parent) -> bool
+fn is_slot(i: usize, p: Option<Slot>) -> bool
     ensures { result ≡ is_slot i p }
 {
     match p {
-        Parent::Nobody => false,
-        Parent::Of(x) => i == x.0,
+        None => false,
+        Some(x) => i == x.0,
     }
 }
 
@@ -121,7 +118,7 @@ fn thread_exit_by(t: &mut [u64; Table::WORDS], hart: usize, status: u64, caller:
     ensures { Makes (thread_exited_by (table_of t.old) hart status caller) result (table_of t.new) }
 {
     if stays(t, caller) {
-        return Answer::Refused(Refusal::WrongWayOut);
+        return Err(Refusal::WrongWayOut);
     }
     let k = slot::kin_at(t, caller);
     if k.thread {
@@ -137,7 +134,7 @@ fn exit_by(t: &mut [u64; Table::WORDS], hart: usize, status: u64, caller: usize)
 {
     let k = slot::kin_at(t, caller);
     if k.thread {
-        return Answer::Refused(Refusal::WrongWayOut);
+        return Err(Refusal::WrongWayOut);
     }
     thread_exit_by(t, hart, status, caller)
 }
@@ -148,8 +145,8 @@ pub fn exit(t: &mut [u64; Table::WORDS], hart: usize, status: u64) -> Answer
 {
     let c = taking::caller_on(t, hart);
     match c {
-        Got::No(n) => Answer::Refused(n),
-        Got::Is(caller) => exit_by(t, hart, status, caller),
+        Err(n) => Err(n),
+        Ok(caller) => exit_by(t, hart, status, caller),
     }
 }
 
@@ -159,7 +156,7 @@ pub fn thread_exit(t: &mut [u64; Table::WORDS], hart: usize, status: u64) -> Ans
 {
     let c = taking::caller_on(t, hart);
     match c {
-        Got::No(n) => Answer::Refused(n),
-        Got::Is(caller) => thread_exit_by(t, hart, status, caller),
+        Err(n) => Err(n),
+        Ok(caller) => thread_exit_by(t, hart, status, caller),
     }
 }

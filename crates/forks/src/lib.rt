@@ -1,18 +1,16 @@
 // Fork and thread creation.
 #![tactic(auto)]
 
-ghost use Rattle.std.specs.Prelude.{◌≡◌, true, cond, ◌+◌, ◌≤◌, ◌<◌, length};
+ghost use Rattle.std.specs.Prelude.{◌≡◌, true, cond, ◌+◌, ◌≤◌, ◌<◌, length, Some};
 ghost use Rattle.rules.specs.Sizes.{slot_count, group_count, address_top, page_size};
 ghost use Rattle.rules.specs.Model.{group_at, slot};
-ghost use Rattle.rules.specs.declared.Parent.TheVariants.{Of};
 ghost use Rattle.rules.specs.Calls.{forked_in, forked_by, wrong_ask, unmapped, threaded_in, threaded_by};
 ghost use Rattle.rules.specs.Runs.{fork, thread};
 ghost use Rattle.promises.specs.Order.Sound.{Sound};
 ghost use Rattle.promises.specs.Did.{Makes, Did};
 ghost use Rattle.words.specs.Reading.{table_of, InTable};
 
-use rules::{Answer, Group, Kin, Mapped, Member, Parent, Pid, Refusal, Slot, ThreadAsk};
-use taking::Got;
+use rules::{Answer, Grant, Group, Kin, Mapped, Pid, Refusal, Slot, ThreadAsk};
 use words::slot::StartWords;
 use words::{Table, book, slot};
 
@@ -26,8 +24,8 @@ fn fork_in(t: &mut [u64; Table::WORDS], caller: usize, g: usize, child: usize) -
     let new = scans::new_group(t);
     let w = slot::start_at(t, caller);
     let k = Kin {
-        group: Member::In(new),
-        parent: Parent::Of(Slot(caller)),
+        group: Some(new),
+        parent: Some(Slot(caller)),
         thread: false,
         system: false,
     };
@@ -51,7 +49,7 @@ fn fork_in(t: &mut [u64; Table::WORDS], caller: usize, g: usize, child: usize) -
         },
     );
     moves::make_runnable(t, child);
-    Answer::Made(Pid(n))
+    Ok(Grant::Made(Pid(n)))
 }
 
 fn fork_by(t: &mut [u64; Table::WORDS], memory: bool, caller: usize) -> Answer
@@ -60,16 +58,16 @@ fn fork_by(t: &mut [u64; Table::WORDS], memory: bool, caller: usize) -> Answer
 {
     let k = slot::kin_at(t, caller);
     let group = k.group;
-    let Member::In(g) = group else {
-        return Answer::Refused(Refusal::NoGroup);
+    let Some(g) = group else {
+        return Err(Refusal::NoGroup);
     };
     match taking::alloc_proc(t) {
-        Got::No(n) => Answer::Refused(n),
-        Got::Is(child) => {
+        Err(n) => Err(n),
+        Ok(child) => {
             if memory {
                 return fork_in(t, caller, g, child);
             }
-            Answer::Refused(Refusal::NoMemory)
+            Err(Refusal::NoMemory)
         }
     }
 }
@@ -80,8 +78,8 @@ pub fn fork(t: &mut [u64; Table::WORDS], hart: usize, memory: bool) -> Answer
 {
     let c = taking::caller_on(t, hart);
     match c {
-        Got::No(n) => Answer::Refused(n),
-        Got::Is(caller) => fork_by(t, memory, caller),
+        Err(n) => Err(n),
+        Ok(caller) => fork_by(t, memory, caller),
     }
 }
 
@@ -123,15 +121,15 @@ fn unmapped(mapped: Mapped) -> bool
 }
 
 // Whose child a thread of s is: a thread's is its leader's.
-fn leader_of(k: Kin, caller: usize) -> Parent
+fn leader_of(k: Kin, caller: usize) -> Option<Slot>
     requires { (caller < slot_count) × InTable k.parent }
-    ensures { (result ≡ cond k.thread k.parent (Of (slot caller))) × InTable result }
+    ensures { (result ≡ cond k.thread k.parent (Some (slot caller))) × InTable result }
 {
     if k.thread {
         let parent = k.parent;
         return parent;
     }
-    Parent::Of(Slot(caller))
+    Some(Slot(caller))
 }
 
 fn thread_in(
@@ -148,7 +146,7 @@ fn thread_in(
     let w = slot::start_at(t, caller);
     let parent = leader_of(slot::kin_at(t, caller), caller);
     let k = Kin {
-        group: Member::In(g),
+        group: Some(g),
         parent,
         thread: true,
         system: false,
@@ -166,7 +164,7 @@ fn thread_in(
     taking::fill(t, i, n, k, b);
     taking::join_group(t, g);
     moves::make_runnable(t, i);
-    Answer::Made(Pid(n))
+    Ok(Grant::Made(Pid(n)))
 }
 
 fn thread_by(t: &mut [u64; Table::WORDS], ask: ThreadAsk, mapped: Mapped, caller: usize) -> Answer
@@ -175,19 +173,19 @@ fn thread_by(t: &mut [u64; Table::WORDS], ask: ThreadAsk, mapped: Mapped, caller
 {
     let k = slot::kin_at(t, caller);
     let group = k.group;
-    let Member::In(g) = group else {
-        return Answer::Refused(Refusal::NoGroup);
+    let Some(g) = group else {
+        return Err(Refusal::NoGroup);
     };
     let space = book::group_at(t, g);
     if wrong_ask(ask, space.size) {
-        return Answer::Refused(Refusal::BadAddress);
+        return Err(Refusal::BadAddress);
     }
     if unmapped(mapped) {
-        return Answer::Refused(Refusal::Unmapped);
+        return Err(Refusal::Unmapped);
     }
     match taking::alloc_proc(t) {
-        Got::No(n) => Answer::Refused(n),
-        Got::Is(i) => thread_in(t, ask, caller, g, i),
+        Err(n) => Err(n),
+        Ok(i) => thread_in(t, ask, caller, g, i),
     }
 }
 
@@ -202,7 +200,7 @@ pub fn create_user_thread(
 {
     let c = taking::caller_on(t, hart);
     match c {
-        Got::No(n) => Answer::Refused(n),
-        Got::Is(caller) => thread_by(t, ask, mapped, caller),
+        Err(n) => Err(n),
+        Ok(caller) => thread_by(t, ask, mapped, caller),
     }
 }

@@ -1,9 +1,9 @@
 -- A size plus a signed count, as the code computes it.
+use Rattle.std.specs.Prelude.{Some, None}
 use Prim.Native.Nat.{ℕ, suc, ◌+◌, ◌-◌, ◌≤◌, ◌<◌}
 use native.Mathlib.Omega.{arith}
 use mathlib.Core.Path.{◌≡◌, refl, sym, ap, ◌∙◌}
 use mathlib.Core.Bool.{Bool, true, false, not, ◌&&◌}
-use mathlib.Core.Option.{none, some}
 use lib.IntN.{ℤ, pos, negsuc, nat_abs, ◌+ℤ◌, ◌-ℤ◌}
 use lib.Signed.{lt_z}
 use mir.Syntax.{w64}
@@ -16,17 +16,17 @@ use Rattle.promises.specs.Laws.Signs.{again, down, less-is, more, more-is}
 
 -- ---- up
 module _ (size up : ℕ) where
-  pub raised-far : size_top - size < up → none ≡ within (pos size +ℤ pos up)
+  pub raised-far : size_top - size < up → None ≡ within (pos size +ℤ pos up)
   unfolding within
   raised-far b = rw (lt-leb (size + up) size_top (omega arith))
 
-  pub raised-in : size ≤ size_top → up ≤ size_top - size → some (size + up) ≡ within (pos size +ℤ pos up)
+  pub raised-in : size ≤ size_top → up ≤ size_top - size → Some (size + up) ≡ within (pos size +ℤ pos up)
   unfolding within
   raised-in b d = rw (le-leb (size + up) size_top (omega arith))
 
 -- ---- down by one more than `less`
 module _ (size less : ℕ) where
-  pub lowered-out : size ≤ less → none ≡ within (pos size +ℤ negsuc less)
+  pub lowered-out : size ≤ less → None ≡ within (pos size +ℤ negsuc less)
   unfolding within
   lowered-out b = rw (lt-ltb size (suc less) (omega arith))
 
@@ -34,7 +34,7 @@ module _ (size less : ℕ) where
     left : size - suc less ≡ size - 1 - less
     left = omega arith
 
-    pub lowered-in : size ≤ size_top → some (size - 1 - less) ≡ within (pos size +ℤ negsuc less)
+    pub lowered-in : size ≤ size_top → Some (size - 1 - less) ≡ within (pos size +ℤ negsuc less)
     unfolding within
     lowered-in d = rw (le-ltb size (suc less) b, left, le-leb (size - 1 - less) size_top (omega arith))
 

@@ -8,46 +8,37 @@ ghost use Rattle.rules.specs.Runs.{grow};
 ghost use Rattle.promises.specs.Order.Sound.{Sound};
 ghost use Rattle.promises.specs.Did.{Makes, Did};
 ghost use Rattle.words.specs.Reading.{table_of};
-ghost use Rattle.growth.specs.Limits.{as_option};
 
-use rules::{Answer, Member, Refusal};
-use taking::Got;
+use rules::{Answer, Grant, Refusal};
 use words::{Table, book, slot};
 
 // Below TRAPFRAME lies a page for each thread's trapframe.
 const SIZE_TOP: u64 = stacks::TRAPFRAME - (Table::SLOTS as u64) * stacks::PAGE;
 
-// A size in the limits, or none.
-#[derive(Clone, Copy)]
-enum Size {
-    To(u64),
-    Out,
-}
-
-fn raised(size: u64, up: u64) -> Size
+fn raised(size: u64, up: u64) -> Option<u64>
     requires { size ≤ size_top }
-    ensures { as_option result ≡ within (pos size +ℤ pos up) }
+    ensures { result ≡ within (pos size +ℤ pos up) }
 {
     if up > SIZE_TOP - size {
-        return Size::Out;
+        return None;
     }
-    Size::To(size + up)
+    Some(size + up)
 }
 
 // Down by `less` and one more.
-fn lowered(size: u64, less: u64) -> Size
+fn lowered(size: u64, less: u64) -> Option<u64>
     requires { size ≤ size_top }
-    ensures { as_option result ≡ within (pos size +ℤ negsuc less) }
+    ensures { result ≡ within (pos size +ℤ negsuc less) }
 {
     if size <= less {
-        return Size::Out;
+        return None;
     }
-    Size::To(size - 1 - less)
+    Some(size - 1 - less)
 }
 
-fn new_size(size: u64, count: i64) -> Size
+fn new_size(size: u64, count: i64) -> Option<u64>
     requires { size ≤ size_top }
-    ensures { as_option result ≡ within (pos size +ℤ count) }
+    ensures { result ≡ within (pos size +ℤ count) }
 {
     if count < 0 {
         return lowered(size, (-1 - count) as u64);
@@ -71,18 +62,18 @@ fn grow_by(t: &mut [u64; Table::WORDS], count: i64, memory: bool, caller: usize)
 {
     let k = slot::kin_at(t, caller);
     let group = k.group;
-    let Member::In(g) = group else {
-        return Answer::Refused(Refusal::NoGroup);
+    let Some(g) = group else {
+        return Err(Refusal::NoGroup);
     };
     let space = book::group_at(t, g);
-    let Size::To(n) = new_size(space.size, count) else {
-        return Answer::Refused(Refusal::SizeOutOfLimits);
+    let Some(n) = new_size(space.size, count) else {
+        return Err(Refusal::SizeOutOfLimits);
     };
     if no_memory(count, memory) {
-        return Answer::Refused(Refusal::NoMemory);
+        return Err(Refusal::NoMemory);
     }
     book::set_size(t, g, n);
-    Answer::Done
+    Ok(Grant::Done)
 }
 
 pub fn grow_proc(t: &mut [u64; Table::WORDS], hart: usize, count: i64, memory: bool) -> Answer
@@ -91,7 +82,7 @@ pub fn grow_proc(t: &mut [u64; Table::WORDS], hart: usize, count: i64, memory: b
 {
     let c = taking::caller_on(t, hart);
     match c {
-        Got::No(n) => Answer::Refused(n),
-        Got::Is(caller) => grow_by(t, count, memory, caller),
+        Err(n) => Err(n),
+        Ok(caller) => grow_by(t, count, memory, caller),
     }
 }

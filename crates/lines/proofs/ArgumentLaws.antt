@@ -1,4 +1,5 @@
 -- The arguments of a command, as the code gathers them one by one.
+use Rattle.std.specs.Prelude.{Result, Ok, Err}
 use Prim.Native.Nat.{ℕ, suc, ◌+◌, ◌-◌, ◌≤◌, ◌<◌}
 use native.Mathlib.Omega.{arith}
 use mathlib.Core.Path.{◌≡◌, refl, sym, ap, ◌∙◌, subst}
@@ -10,12 +11,9 @@ use lib.Dec.{ltb}
 use borrow.Author.Tests.{lt-ltb, le-ltb, ltb-true, ltb-false}
 use Rattle.buffers.specs.Text.{Wrote}
 use Rattle.buffers.proofs.TextLaws.{wrote_none, wrote-long, wrote_one, wrote-more}
-use Rattle.lines.specs.declared.value.Value.{Value}
-use Rattle.lines.specs.declared.value.Value.TheVariants.{Is, No}
 use Rattle.lines.specs.declared.Why.{Why}
 use Rattle.lines.specs.declared.Why.TheVariants.{TooMany}
 use Rattle.lines.specs.declared.word.Word.{Word}
-use Rattle.lines.specs.declared.arguments.Args.TheVariants.{All, Not}
 use Rattle.lines.specs.Words.{first_word, Cut}
 use Rattle.lines.specs.Values.{argument_in}
 use Rattle.lines.specs.Kinds.{no_kind}
@@ -32,7 +30,7 @@ unfolding prefixed
 prefixed-none (are l) = refl
 prefixed-none (lack why) = refl
 
-prefixed-more : (l : List ℕ) (v : ℕ) (a : Arguments) → prefixed l (and_more (Is v) a) ≡ prefixed (l ++ (v ∷ [])) a
+prefixed-more : (l : List ℕ) (v : ℕ) (a : Arguments) → prefixed l (and_more (Ok v) a) ≡ prefixed (l ++ (v ∷ [])) a
 unfolding prefixed and_more
 prefixed-more l v (are m) = ap are (sym (append_snoc l v m))
 prefixed-more l v (lack why) = refl
@@ -73,15 +71,15 @@ module _ (k : ℕ) (line : List ℕ) (start : ℕ) (b : List ℕ) where
         unfolding arguments_in kind_at
         next-is = rw (drop-cons (kinds_of k) i no_kind one_more, cut.word, cut.rest, m.here)
 
-        by : (v : Value) → v ≡ argument_in kind (take (c.to - c.from) (drop c.from line))
+        by : (v : Result ℕ Why) → v ≡ argument_in kind (take (c.to - c.from) (drop c.from line))
             → arguments_in (kinds_of k) (drop start line) ≡ prefixed m.values (and_more v (arguments_in (drop (suc i) (kinds_of k)) (drop c.to line)))
-        by v e = m.sofar ∙ ap (prefixed m.values) (next-is ∙ ap (λ (x : Value). and_more x (arguments_in (drop (suc i) (kinds_of k)) (drop c.to line))) (sym e))
+        by v e = m.sofar ∙ ap (prefixed m.values) (next-is ∙ ap (λ (x : Result ℕ Why). and_more x (arguments_in (drop (suc i) (kinds_of k)) (drop c.to line))) (sym e))
 
-        pub one-not : {why : Why} → No why ≡ argument_in kind (take (c.to - c.from) (drop c.from line)) → (d : List ℕ) → Told (arguments_in (kinds_of k) (drop start line)) b (Not why) d
+        pub one-not : {why : Why} → Err why ≡ argument_in kind (take (c.to - c.from) (drop c.from line)) → (d : List ℕ) → Told (arguments_in (kinds_of k) (drop start line)) b (Err why) d
         unfolding Told prefixed and_more
-        one-not {why} e d = subst (λ (a : Arguments). Told a b (Not why) d) (sym (by (No why) e)) refl
+        one-not {why} e d = subst (λ (a : Arguments). Told a b (Err why) d) (sym (by (Err why) e)) refl
 
-        pub next : {v kind' : ℕ} → Is v ≡ argument_in kind (take (c.to - c.from) (drop c.from line)) → k < command_count → word_count ≤ length b → kind' ≡ kind_at k (i + 1)
+        pub next : {v kind' : ℕ} → Ok v ≡ argument_in kind (take (c.to - c.from) (drop c.from line)) → k < command_count → word_count ≤ length b → kind' ≡ kind_at k (i + 1)
             → Midway (set w (i + 1) v) c.to (i + 1) kind'
         next {v} e h p f = let z : i + 1 ≡ suc i = omega arith in record {
           few = omega (arith, one_more);
@@ -89,7 +87,7 @@ module _ (k : ℕ) (line : List ℕ) (start : ℕ) (b : List ℕ) where
           here = f;
           values = m.values ++ (v ∷ []);
           wrote = wrote-more m.wrote (wrote_one w (i + 1) v (omega (arith, one_more, kinds-few k h, wrote-long m.wrote)));
-          sofar = rw z (by (Is v) e ∙ prefixed-more m.values v _);
+          sofar = rw z (by (Ok v) e ∙ prefixed-more m.values v _);
         }
 
     module _ (h : k < command_count) (e : kind ≡ no_kind) {c : Word} (cut : Cut line at c) where
@@ -104,10 +102,10 @@ module _ (k : ℕ) (line : List ℕ) (start : ℕ) (b : List ℕ) where
       unfolding arguments_in prefixed
       exact l = rw (le-ltb 0 (length (first_word (drop at line))) (omega (arith, cut-length cut)), append-nil)
 
-      pub too_many : c.from < c.to → Told (arguments_in (kinds_of k) (drop start line)) b (Not TooMany) w
+      pub too_many : c.from < c.to → Told (arguments_in (kinds_of k) (drop start line)) b (Err TooMany) w
       unfolding Told
-      too_many l = subst (λ (a : Arguments). Told a b (Not TooMany) w) (sym (last-is ∙ over l)) refl
+      too_many l = subst (λ (a : Arguments). Told a b (Err TooMany) w) (sym (last-is ∙ over l)) refl
 
-      pub all_there : c.to ≤ c.from → Told (arguments_in (kinds_of k) (drop start line)) b All w
+      pub all_there : c.to ≤ c.from → Told (arguments_in (kinds_of k) (drop start line)) b (Ok tt) w
       unfolding Told
-      all_there l = subst (λ (a : Arguments). Told a b All w) (sym (last-is ∙ exact l)) m.wrote.buffer
+      all_there l = subst (λ (a : Arguments). Told a b (Ok tt) w) (sym (last-is ∙ exact l)) m.wrote.buffer

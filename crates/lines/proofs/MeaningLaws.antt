@@ -1,10 +1,10 @@
 -- What a line means, as the code finds it out.
+use Rattle.std.specs.Prelude.{Result, Ok, Err, Option, Some, None}
 use Prim.Native.Nat.{ℕ, ◌+◌, ◌-◌, ◌≤◌, ◌<◌}
 use Prim.Native.Char.{code}
 use native.Mathlib.Omega.{arith}
 use mathlib.Core.Path.{◌≡◌, refl, sym, ap, ◌∙◌, subst}
 use mathlib.Core.Bool.{Bool, true, false, cond, ◌||◌}
-use mathlib.Core.Option.{Option, none, some}
 use mathlib.Core.List.{List, [], ◌∷◌}
 use lib.ListN.{length, get_or, take, drop, replicate, length-drop}
 use lib.Seq.{length-take-le, get_or-take, get_or-drop}
@@ -18,13 +18,9 @@ use Rattle.steps.specs.declared.Call.{Call}
 use Rattle.codes.specs.Codes.{call_in}
 use Rattle.lines.specs.declared.Said.{Said}
 use Rattle.lines.specs.declared.Said.TheVariants.{Spawn}
-use Rattle.lines.specs.declared.value.Value.{Value}
-use Rattle.lines.specs.declared.value.Value.TheVariants.{Is, No}
 use Rattle.lines.specs.declared.Why.{Why}
 use Rattle.lines.specs.declared.Why.TheVariants.{UnknownWord, TooFew, NotAName}
 use Rattle.lines.specs.declared.word.Word.{Word}
-use Rattle.lines.specs.declared.arguments.Args.{Args}
-use Rattle.lines.specs.declared.arguments.Args.TheVariants.{All, Not}
 use Rattle.lines.specs.Words.{first_word, after_word, Cut}
 use Rattle.lines.specs.Values.{name_good, name_bytes, name_worth, value_in, argument_in}
 use Rattle.lines.specs.Kinds.{a_number, a_name}
@@ -36,8 +32,8 @@ use Rattle.lines.proofs.ArgumentLaws.{cut-length}
 -- ---- the call
 said-called : (name : List ℕ) (o : Option Call) → meaning_of name (said_by o) ≡ called_by o
 unfolding called_by
-said-called name none = refl
-said-called name (some c) = refl
+said-called name None = refl
+said-called name (Some c) = refl
 
 -- ---- the command
 module _ (k : ℕ) (l w : List ℕ) where
@@ -63,40 +59,40 @@ module _ (k : ℕ) (l w name : List ℕ) where
   by_call a b c d e = rw (spawn-is, list-is, show-is, fresh-is, ne_eqb k (first_call + 2) a, ne_eqb k 0 b, ne_eqb k 1 c, ne_eqb k 2 d, e) (said-called name (call_in (words_of k w)))
 
 -- ---- a spawn that has its arguments has a name
-sized : (w : List ℕ) (v : ℕ) → name_worth w ≡ Is v → name_good w ≡ true
+sized : (w : List ℕ) (v : ℕ) → name_worth w ≡ Ok v → name_good w ≡ true
 unfolding name_worth
 sized w v e = go (name_good w) e
   where
-    go : (b : Bool) → cond b (Is (length (name_bytes w))) (No NotAName) ≡ Is v → b ≡ true
+    go : (b : Bool) → cond b (Ok (length (name_bytes w))) (Err NotAName) ≡ Ok v → b ≡ true
     go true e = refl
     go false e = cc
 
-named : (w : List ℕ) (v : ℕ) → argument_in a_name w ≡ Is v → name_good w ≡ true
+named : (w : List ℕ) (v : ℕ) → argument_in a_name w ≡ Ok v → name_good w ≡ true
 unfolding argument_in value_in
 named w v e = go (ltb 0 (length w)) e
   where
-    go : (b : Bool) → cond b (name_worth w) (No TooFew) ≡ Is v → name_good w ≡ true
+    go : (b : Bool) → cond b (name_worth w) (Err TooFew) ≡ Ok v → name_good w ≡ true
     go true e = sized w v e
     go false e = cc
 
-pub name-there : (k : ℕ) (l b d : List ℕ) → Told (arguments_in (kinds_of k) l) b All d → NameThere k l
+pub name-there : (k : ℕ) (l b d : List ℕ) → Told (arguments_in (kinds_of k) l) b (Ok tt) d → NameThere k l
 unfolding Told arguments_in and_more kinds_of grammar command bytes
-name-there k l b d t e = go (argument_in a_name (first_word l)) refl (arguments_in (a_number ∷ []) (after_word l)) (subst (λ (x : ℕ). Told (arguments_in (kinds_of x) l) b All d) (spawn-alone k e) t)
+name-there k l b d t e = go (argument_in a_name (first_word l)) refl (arguments_in (a_number ∷ []) (after_word l)) (subst (λ (x : ℕ). Told (arguments_in (kinds_of x) l) b (Ok tt) d) (spawn-alone k e) t)
   where
-    go : (v : Value) → argument_in a_name (first_word l) ≡ v → (a : Arguments) → Told (and_more v a) b All d → name_good (first_word l) ≡ true
-    go (Is v) e a t = named (first_word l) v e
-    go (No why) e a t = absurd t
+    go : (v : Result ℕ Why) → argument_in a_name (first_word l) ≡ v → (a : Arguments) → Told (and_more v a) b (Ok tt) d → name_good (first_word l) ≡ true
+    go (Ok v) e a t = named (first_word l) v e
+    go (Err why) e a t = absurd t
 
 -- ---- the arguments
-pub told-by : (a : Arguments) (b d : List ℕ) (r x : Args) → r ≡ x → Told a b r d → Told a b x d
-told-by a b d r x e t = subst (λ (y : Args). Told a b y d) e t
+pub told-by : (a : Arguments) (b d : List ℕ) (r x : Result Unit Why) → r ≡ x → Told a b r d → Told a b x d
+told-by a b d r x e t = subst (λ (y : Result Unit Why). Told a b y d) e t
 
-pub told-all : (k : ℕ) (l d : List ℕ) (a : Arguments) → Told a (replicate word_count 0) All d → command_means k l d ≡ with_arguments k l a
+pub told-all : (k : ℕ) (l d : List ℕ) (a : Arguments) → Told a (replicate word_count 0) (Ok tt) d → command_means k l d ≡ with_arguments k l a
 unfolding Told with_arguments
 told-all k l d (are vs) t = ap (command_means k l) t
 told-all k l d (lack why) t = absurd t
 
-pub told-not : (k : ℕ) (l b d : List ℕ) (a : Arguments) {why : Why} → Told a b (Not why) d → misread why ≡ with_arguments k l a
+pub told-not : (k : ℕ) (l b d : List ℕ) (a : Arguments) {why : Why} → Told a b (Err why) d → misread why ≡ with_arguments k l a
 unfolding Told with_arguments
 told-not k l b d (are vs) t = absurd t
 told-not k l b d (lack why) t = ap misread t

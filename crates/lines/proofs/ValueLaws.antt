@@ -1,4 +1,5 @@
 -- What a word is worth, as the code finds it.
+use Rattle.std.specs.Prelude.{Result, Ok, Err}
 use Prim.Native.Nat.{ℕ, zero, suc, ◌+◌, ◌-◌, ◌*◌, ◌/◌, ◌%◌, ◌^◌, ◌≤◌, ◌<◌}
 use Prim.Native.Char.{code}
 use native.Mathlib.Omega.{arith}
@@ -13,9 +14,7 @@ use Rattle.rules.specs.Listing.{bytes}
 use Rattle.buffers.specs.Text.{put, Wrote}
 use Rattle.promises.specs.Laws.Bools.{and_left, and_right, clash}
 use Rattle.promises.specs.Laws.Digits.{read_on, value_of}
-use Rattle.lines.specs.declared.value.Value.{Value}
 use Rattle.lines.specs.declared.Why.{Why}
-use Rattle.lines.specs.declared.value.Value.TheVariants.{Is, No}
 use Rattle.lines.specs.declared.Why.TheVariants.{NotANumber, TooLarge, NotAName}
 use Rattle.lines.specs.Values.{inside, nibble, all_below, limited, number_in, and_then, positive, negative, count_in, is_hex, unhex, name_good, name_bytes, name_worth}
 use Rattle.lines.proofs.WordLaws.{same_length}
@@ -77,15 +76,15 @@ read-end w n j h = rw (drop_of_length-le w h)
 
 -- ---- the number
 module _ (w : List ℕ) where
-  pub no_digit : length w ≡ 0 → No NotANumber ≡ number_in w
+  pub no_digit : length w ≡ 0 → Err NotANumber ≡ number_in w
   unfolding number_in
   no_digit e = rw (eq-eqb (length w) 0 e)
 
-  pub not-digits : all_below 10 w ≡ false → No NotANumber ≡ number_in w
+  pub not-digits : all_below 10 w ≡ false → Err NotANumber ≡ number_in w
   unfolding number_in
   not-digits e = rw e (go (not (eqb (length w) 0)))
     where
-      go : (b : Bool) → No NotANumber ≡ cond (b && false) (limited (value_of w)) (No NotANumber)
+      go : (b : Bool) → Err NotANumber ≡ cond (b && false) (limited (value_of w)) (Err NotANumber)
       go true = refl
       go false = refl
 
@@ -94,11 +93,11 @@ module _ (w : List ℕ) where
     unfolding number_in
     digits_are = rw (ne_eqb (length w) 0 l, e)
 
-    pub too_large : 2 ^ 64 ≤ read_on 0 w → No TooLarge ≡ number_in w
+    pub too_large : 2 ^ 64 ≤ read_on 0 w → Err TooLarge ≡ number_in w
     unfolding limited value_of
     too_large h = rw (digits_are, le-ltb (read_on 0 w) (2 ^ 64) h)
 
-    pub number_is : {n : ℕ} → read_on 0 w ≡ n → n < 2 ^ 64 → Is n ≡ number_in w
+    pub number_is : {n : ℕ} → read_on 0 w ≡ n → n < 2 ^ 64 → Ok n ≡ number_in w
     unfolding limited value_of
     number_is {n} f h = rw (digits_are, f, lt-ltb n (2 ^ 64) h)
 
@@ -107,28 +106,28 @@ negate zero h b = absurd (h refl)
 negate (suc n) h b = omega arith
 
 -- ---- a count
-pub then_is : (f : ℕ → Value) {v : Value} {n : ℕ} → Is n ≡ v → f n ≡ and_then v f
+pub then_is : (f : ℕ → Result ℕ Why) {v : Result ℕ Why} {n : ℕ} → Ok n ≡ v → f n ≡ and_then v f
 unfolding and_then
-then_is f e = ap (λ (x : Value). and_then x f) e
+then_is f e = ap (λ (x : Result ℕ Why). and_then x f) e
 
-pub then-no : (f : ℕ → Value) {v : Value} {y : Why} → No y ≡ v → No y ≡ and_then v f
+pub then-no : (f : ℕ → Result ℕ Why) {v : Result ℕ Why} {y : Why} → Err y ≡ v → Err y ≡ and_then v f
 unfolding and_then
-then-no f e = ap (λ (x : Value). and_then x f) e
+then-no f e = ap (λ (x : Result ℕ Why). and_then x f) e
 
 module _ (w : List ℕ) where
-  pub no-count : length w ≡ 0 → No NotANumber ≡ count_in w
+  pub no-count : length w ≡ 0 → Err NotANumber ≡ count_in w
   unfolding count_in
   no-count e = go w e
     where
-      go : (l : List ℕ) → length l ≡ 0 → No NotANumber ≡ cond (eqb (get_or l 0 0) (code "-")) (and_then (number_in (drop 1 l)) negative) (and_then (number_in l) positive)
+      go : (l : List ℕ) → length l ≡ 0 → Err NotANumber ≡ cond (eqb (get_or l 0 0) (code "-")) (and_then (number_in (drop 1 l)) negative) (and_then (number_in l) positive)
       go [] e = then-no positive (no_digit [] refl)
       go (x ∷ l) e = absurd (omega arith)
 
-  pub minus-count : get_or w 0 0 ≡ code "-" → {l : List ℕ} → l ≡ drop 1 w → {r : Value} → r ≡ and_then (number_in l) negative → r ≡ count_in w
+  pub minus-count : get_or w 0 0 ≡ code "-" → {l : List ℕ} → l ≡ drop 1 w → {r : Result ℕ Why} → r ≡ and_then (number_in l) negative → r ≡ count_in w
   unfolding count_in
   minus-count e k f = f ∙ rw (k, eq-eqb (get_or w 0 0) (code "-") e)
 
-  pub plain-count : (get_or w 0 0 ≡ code "-" → ⊥) → {r : Value} → r ≡ and_then (number_in w) positive → r ≡ count_in w
+  pub plain-count : (get_or w 0 0 ≡ code "-" → ⊥) → {r : Result ℕ Why} → r ≡ and_then (number_in w) positive → r ≡ count_in w
   unfolding count_in
   plain-count e f = f ∙ rw (ne_eqb (get_or w 0 0) (code "-") e)
 
@@ -151,27 +150,27 @@ unhex-length (a ∷ []) = refl
 unhex-length (a ∷ b ∷ l) = omega (arith, unhex-length l)
 
 module _ (w : List ℕ) where
-  pub plain-name : is_hex w ≡ false → Is (length w) ≡ name_worth w
+  pub plain-name : is_hex w ≡ false → Ok (length w) ≡ name_worth w
   unfolding name_worth name_good name_bytes
   plain-name e = rw e
 
   module _ (e : is_hex w ≡ true) where
-    hex-size : name_worth w ≡ cond (eqb (length w % 2) 0 && all_below 16 (drop 4 w)) (Is (length (unhex (drop 4 w)))) (No NotAName)
+    hex-size : name_worth w ≡ cond (eqb (length w % 2) 0 && all_below 16 (drop 4 w)) (Ok (length (unhex (drop 4 w)))) (Err NotAName)
     unfolding name_worth name_good name_bytes
     hex-size = rw e
 
-    pub odd-hex : length w % 2 ≡ 1 → No NotAName ≡ name_worth w
+    pub odd-hex : length w % 2 ≡ 1 → Err NotAName ≡ name_worth w
     odd-hex f = rw (hex-size, f)
 
     module _ {l : List ℕ} (k : l ≡ drop 4 w) where
-      pub bad-hex : all_below 16 l ≡ false → No NotAName ≡ name_worth w
+      pub bad-hex : all_below 16 l ≡ false → Err NotAName ≡ name_worth w
       bad-hex f = rw (hex-size, sym (ap (all_below 16) k) ∙ f) (go (eqb (length w % 2) 0))
         where
-          go : (b : Bool) → No NotAName ≡ cond (b && false) (Is (length (unhex (drop 4 w)))) (No NotAName)
+          go : (b : Bool) → Err NotAName ≡ cond (b && false) (Ok (length (unhex (drop 4 w)))) (Err NotAName)
           go true = refl
           go false = refl
 
-      pub good-hex : (length w % 2 ≡ 1 → ⊥) → all_below 16 l ≡ true → Is ((length w - 4) / 2) ≡ name_worth w
+      pub good-hex : (length w % 2 ≡ 1 → ⊥) → all_below 16 l ≡ true → Ok ((length w - 4) / 2) ≡ name_worth w
       good-hex h f = let z : length (unhex (drop 4 w)) ≡ (length w - 4) / 2 = unhex-length (drop 4 w) ∙ ap (λ (n : ℕ). n / 2) (length-drop 4 w) in
           rw (hex-size, sym (ap (all_below 16) k) ∙ f, eq-eqb (length w % 2) 0 (even (length w) h), z)
         where

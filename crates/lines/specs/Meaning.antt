@@ -1,7 +1,6 @@
 -- What a line means.
-use Rattle.std.specs.Prelude.{ℕ, ◌+◌, ◌-◌, ◌*◌, ◌≡◌, true, cond, ◌&&◌, ◌||◌, List, [], ◌∷◌, length, get_or, set, take, replicate, eqb, ltb}
+use Rattle.std.specs.Prelude.{ℕ, ◌+◌, ◌-◌, ◌*◌, ◌≡◌, true, cond, ◌&&◌, ◌||◌, List, [], ◌∷◌, length, get_or, set, take, replicate, eqb, ltb, Option, Some, None, Result, Ok, Err}
 use Prim.Native.Char.{code}
-use Rattle.std.proofs.Math.Option.{Option, none, some}
 use Rattle.rules.specs.Runs as rules
 use Rattle.buffers.specs.Text.{put}
 use Rattle.steps.specs.declared.Call.{Call}
@@ -9,12 +8,8 @@ use Rattle.steps.specs.ByValue.{call_of}
 use Rattle.codes.specs.Codes.{is_flag, call_in}
 use Rattle.lines.specs.declared.Said.{Said}
 use Rattle.lines.specs.declared.Said.TheVariants as said
-use Rattle.lines.specs.declared.value.Value.{Value}
-use Rattle.lines.specs.declared.value.Value.TheVariants.{Is, No}
 use Rattle.lines.specs.declared.Why.{Why}
 use Rattle.lines.specs.declared.Why.TheVariants.{UnknownWord, TooMany, NotAChoice}
-use Rattle.lines.specs.declared.arguments.Args.{Args}
-use Rattle.lines.specs.declared.arguments.Args.TheVariants.{All, Not}
 use Rattle.lines.specs.Words.{first_word, after_word}
 use Rattle.lines.specs.Values.{name_good, name_bytes, argument_in}
 use Rattle.lines.specs.Grammar.{first_call, command_count, command_of, is_command, kinds_of}
@@ -28,21 +23,21 @@ pub data Arguments : Type 0 where
   are : List ℕ → Arguments
   lack : Why → Arguments
 
-unfoldable pub and_more : Value → Arguments → Arguments
-and_more (Is v) (are l) = are (v ∷ l)
-and_more (Is v) (lack why) = lack why
-and_more (No why) more = lack why
+unfoldable pub and_more : Result ℕ Why → Arguments → Arguments
+and_more (Ok v) (are l) = are (v ∷ l)
+and_more (Ok v) (lack why) = lack why
+and_more (Err why) more = lack why
 
 unfoldable pub arguments_in : List ℕ → List ℕ → Arguments
 arguments_in [] l = cond (ltb 0 (length (first_word l))) (lack TooMany) (are [])
 arguments_in (k ∷ kinds) l = and_more (argument_in k (first_word l)) (arguments_in kinds (after_word l))
 
 -- what the code told of them: d is b with the arguments from place 1 on
-unfoldable pub Told : Arguments → List ℕ → Args → List ℕ → Type 0
-Told (are l) b All d = d ≡ put b 1 l
-Told (are l) b (Not why) d = ⊥
-Told (lack why) b All d = ⊥
-Told (lack why) b (Not told) d = told ≡ why
+unfoldable pub Told : Arguments → List ℕ → Result Unit Why → List ℕ → Type 0
+Told (are l) b (Ok tt) d = d ≡ put b 1 l
+Told (are l) b (Err why) d = ⊥
+Told (lack why) b (Ok tt) d = ⊥
+Told (lack why) b (Err told) d = told ≡ why
 
 -- ---- a line
 pub data Meaning : Type 0 where
@@ -68,8 +63,8 @@ words_of k w = set (flags_together k w) 0 (k - first_call)
 
 -- words that are no call are answered as a choice that is none
 unfoldable pub called_by : Option Call → Meaning
-called_by none = misread NotAChoice
-called_by (some c) = called (call_of [] c)
+called_by None = misread NotAChoice
+called_by (Some c) = called (call_of [] c)
 
 -- command k with its arguments in w from place 1 on, and l for the line behind its name
 unfoldable pub command_means : ℕ → List ℕ → List ℕ → Meaning
@@ -90,8 +85,8 @@ means l =
 
 -- ---- what the code says of it, with the name in a buffer
 abbrev pub said_by : Option Call → Said
-said_by none = said.Misread NotAChoice
-said_by (some c) = said.Call c
+said_by None = said.Misread NotAChoice
+said_by (Some c) = said.Call c
 
 abbrev pub meaning_of : List ℕ → Said → Meaning
 meaning_of name said.Nothing = passed

@@ -1,10 +1,9 @@
 -- What a word is worth as an argument, or why nothing.
-use Rattle.std.specs.Prelude.{ℕ, ◌+◌, ◌-◌, ◌*◌, ◌%◌, ◌^◌, Bool, true, cond, not, ◌&&◌, List, [], ◌∷◌, length, get_or, take, drop, eqb, leb, ltb}
+use Rattle.std.specs.Prelude.{ℕ, ◌+◌, ◌-◌, ◌*◌, ◌%◌, ◌^◌, Bool, true, cond, not, ◌&&◌, List, [], ◌∷◌, length, get_or, take, drop, eqb, leb, ltb, Result, Ok, Err}
 use Prim.Native.Char.{code}
 use Rattle.rules.specs.Listing.{bytes}
 use Rattle.promises.specs.Laws.Digits.{value_of}
-use Rattle.lines.specs.declared.value.Value.{Value}
-use Rattle.lines.specs.declared.value.Value.TheVariants.{Is, No}
+use Rattle.lines.specs.declared.Why.{Why}
 use Rattle.lines.specs.declared.Why.TheVariants.{TooFew, NotANumber, TooLarge, NotAName}
 use Rattle.lines.specs.Words.{same}
 use Rattle.lines.specs.Kinds.{a_count, a_flag, a_wish, a_name, a_room}
@@ -24,32 +23,32 @@ all_below base [] = true
 all_below base (b ∷ l) = ltb (nibble b) base && all_below base l
 
 -- ---- a number: decimal digits, at least one, below 2^64
-unfoldable pub limited : ℕ → Value
-limited n = cond (ltb n (2 ^ 64)) (Is n) (No TooLarge)
+unfoldable pub limited : ℕ → Result ℕ Why
+limited n = cond (ltb n (2 ^ 64)) (Ok n) (Err TooLarge)
 
-unfoldable pub number_in : List ℕ → Value
-number_in w = cond (not (eqb (length w) 0) && all_below 10 w) (limited (value_of w)) (No NotANumber)
+unfoldable pub number_in : List ℕ → Result ℕ Why
+number_in w = cond (not (eqb (length w) 0) && all_below 10 w) (limited (value_of w)) (Err NotANumber)
 
 -- ---- a count: a number with or without a minus sign, as a word in two's complement
-unfoldable pub and_then : Value → (ℕ → Value) → Value
-and_then (Is n) f = f n
-and_then (No why) f = No why
+unfoldable pub and_then : Result ℕ Why → (ℕ → Result ℕ Why) → Result ℕ Why
+and_then (Ok n) f = f n
+and_then (Err why) f = Err why
 
-unfoldable pub positive : ℕ → Value
-positive n = cond (ltb n (2 ^ 63)) (Is n) (No TooLarge)
+unfoldable pub positive : ℕ → Result ℕ Why
+positive n = cond (ltb n (2 ^ 63)) (Ok n) (Err TooLarge)
 
-unfoldable pub negative : ℕ → Value
-negative n = cond (leb n (2 ^ 63)) (Is (cond (eqb n 0) 0 (2 ^ 64 - n))) (No TooLarge)
+unfoldable pub negative : ℕ → Result ℕ Why
+negative n = cond (leb n (2 ^ 63)) (Ok (cond (eqb n 0) 0 (2 ^ 64 - n))) (Err TooLarge)
 
-unfoldable pub count_in : List ℕ → Value
+unfoldable pub count_in : List ℕ → Result ℕ Why
 count_in w = cond (eqb (get_or w 0 0) (code "-")) (and_then (number_in (drop 1 w)) negative) (and_then (number_in w) positive)
 
 -- ---- a flag, a wish, as a call's word has them; one more than the last is none
-unfoldable pub flag_in : List ℕ → Value
-flag_in w = Is (cond (same w (bytes "yes")) 1 (cond (same w (bytes "no")) 0 2))
+unfoldable pub flag_in : List ℕ → Result ℕ Why
+flag_in w = Ok (cond (same w (bytes "yes")) 1 (cond (same w (bytes "no")) 0 2))
 
-unfoldable pub wish_in : List ℕ → Value
-wish_in w = Is (cond (same w (bytes "not-wanted")) 0 (cond (same w (bytes "writable")) 1 (cond (same w (bytes "unwritable")) 2 3)))
+unfoldable pub wish_in : List ℕ → Result ℕ Why
+wish_in w = Ok (cond (same w (bytes "not-wanted")) 0 (cond (same w (bytes "writable")) 1 (cond (same w (bytes "unwritable")) 2 3)))
 
 -- ---- a name: the word itself, or after `hex:` two hexadecimal digits for each byte; it is worth its length
 unfoldable pub is_hex : List ℕ → Bool
@@ -66,13 +65,13 @@ name_good w = cond (is_hex w) (eqb (length w % 2) 0 && all_below 16 (drop 4 w)) 
 unfoldable pub name_bytes : List ℕ → List ℕ
 name_bytes w = cond (is_hex w) (unhex (drop 4 w)) w
 
-unfoldable pub name_worth : List ℕ → Value
-name_worth w = cond (name_good w) (Is (length (name_bytes w))) (No NotAName)
+unfoldable pub name_worth : List ℕ → Result ℕ Why
+name_worth w = cond (name_good w) (Ok (length (name_bytes w))) (Err NotAName)
 
 -- ---- by its kind; a room is a number
-unfoldable pub value_in : ℕ → List ℕ → Value
+unfoldable pub value_in : ℕ → List ℕ → Result ℕ Why
 value_in kind w = cond (eqb kind a_count) (count_in w) (cond (eqb kind a_flag) (flag_in w) (cond (eqb kind a_wish) (wish_in w) (cond (eqb kind a_name) (name_worth w) (number_in w))))
 
 -- an argument that isn't there: only a room may be left out, and is then as large as can be
-unfoldable pub argument_in : ℕ → List ℕ → Value
-argument_in kind w = cond (ltb 0 (length w)) (value_in kind w) (cond (eqb kind a_room) (Is (2 ^ 64 - 1)) (No TooFew))
+unfoldable pub argument_in : ℕ → List ℕ → Result ℕ Why
+argument_in kind w = cond (ltb 0 (length w)) (value_in kind w) (cond (eqb kind a_room) (Ok (2 ^ 64 - 1)) (Err TooFew))

@@ -3,20 +3,13 @@ ghost use Rattle.std.specs.Prelude.{◌≤◌, ◌<◌, length, drop};
 ghost use Rattle.lines.specs.Grammar.{command_count, kinds_of};
 ghost use Rattle.lines.specs.Meaning.{word_count, arguments_in, Told};
 
-use crate::value::Value;
 use crate::{Why, grammar, value, word};
 
 // The command's number, and nine arguments at most.
 pub const WORDS: usize = 10;
 
-#[derive(Clone, Copy)]
-pub enum Args {
-    All,
-    Not(Why),
-}
-
 // From `at` on; argument i goes to w[i + 1].
-pub fn read(line: &[u8], at: usize, k: usize, w: &mut [u64]) -> Args
+pub fn read(line: &[u8], at: usize, k: usize, w: &mut [u64]) -> Result<(), Why>
     requires { (at ≤ length line.now) × (k < command_count) × (word_count ≤ length w.old) }
     ensures { Told (arguments_in (kinds_of k) (drop at line.now)) w.old result w.new }
 {
@@ -28,11 +21,11 @@ pub fn read(line: &[u8], at: usize, k: usize, w: &mut [u64]) -> Args
         let from = c.from;
         let to = c.to;
         match value::argument(kind, &line[from..to]) {
-            Value::Is(v) => {
+            Ok(v) => {
                 w[i + 1] = v;
             }
-            Value::No(why) => {
-                return Args::Not(why);
+            Err(why) => {
+                return Err(why);
             }
         }
         at = to;
@@ -41,7 +34,7 @@ pub fn read(line: &[u8], at: usize, k: usize, w: &mut [u64]) -> Args
     }
     let c = word::next(line, at);
     if c.from < c.to {
-        return Args::Not(Why::TooMany);
+        return Err(Why::TooMany);
     }
-    Args::All
+    Ok(())
 }

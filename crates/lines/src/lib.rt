@@ -6,8 +6,6 @@ ghost use Rattle.lines.specs.Meaning.{word_count, means, command_means, words_of
 ghost use Rattle.lines.specs.Grammar.{first_call};
 ghost use Rattle.codes.specs.Codes.{call_in};
 
-use arguments::Args;
-use codes::Read;
 use steps::Call;
 
 mod word; // where the words of a line stand
@@ -77,8 +75,8 @@ fn call(k: usize, w: &mut [u64]) -> Said
     flags_together(k, w);
     w[0] = (k - grammar::FIRST_CALL) as u64;
     match codes::first(w) {
-        Read::No => Said::Misread(Why::NotAChoice),
-        Read::Is(c) => Said::Call(c),
+        None => Said::Misread(Why::NotAChoice),
+        Some(c) => Said::Call(c),
     }
 }
 
@@ -122,7 +120,7 @@ pub fn read(line: &[u8], name: &mut [u8]) -> Said
     }
     let mut w = [0u64; arguments::WORDS];
     match arguments::read(line, to, k, &mut w) {
-        Args::All => command(line, to, k, &mut w, name),
-        Args::Not(why) => Said::Misread(why),
+        Ok(()) => command(line, to, k, &mut w, name),
+        Err(why) => Said::Misread(why),
     }
 }

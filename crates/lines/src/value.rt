@@ -18,12 +18,6 @@ const ROOM: u8 = b'o';
 // 2^63: the counts below 0 are so many.
 const HALF: u64 = 1 << 63;
 
-#[derive(Clone, Copy)]
-pub enum Value {
-    Is(u64),
-    No(Why),
-}
-
 fn inside(low: u8, high: u8, b: u8) -> bool
     ensures { result ≡ inside low high b }
 {
@@ -63,103 +57,103 @@ fn all_below(w: &[u8], base: u64) -> bool
     true
 }
 
-fn number(w: &[u8]) -> Value
+fn number(w: &[u8]) -> Result<u64, Why>
     ensures { result ≡ number_in w.now }
 {
     if w.len() == 0 {
-        return Value::No(Why::NotANumber);
+        return Err(Why::NotANumber);
     }
     if !all_below(w, 10) {
-        return Value::No(Why::NotANumber);
+        return Err(Why::NotANumber);
     }
     let mut n = 0;
     let mut j = 0;
     while j < w.len() {
         let d = nibble(w[j]);
         if n > (u64::MAX - d) / 10 {
-            return Value::No(Why::TooLarge);
+            return Err(Why::TooLarge);
         }
         n = 10 * n + d;
         j += 1;
     }
-    Value::Is(n)
+    Ok(n)
 }
 
-fn positive(n: u64) -> Value
+fn positive(n: u64) -> Result<u64, Why>
     ensures { result ≡ positive n }
 {
     if n >= HALF {
-        return Value::No(Why::TooLarge);
+        return Err(Why::TooLarge);
     }
-    Value::Is(n)
+    Ok(n)
 }
 
 // The word that stands for -n.
-fn negative(n: u64) -> Value
+fn negative(n: u64) -> Result<u64, Why>
     ensures { result ≡ negative n }
 {
     if n > HALF {
-        return Value::No(Why::TooLarge);
+        return Err(Why::TooLarge);
     }
     if n == 0 {
-        return Value::Is(0);
+        return Ok(0);
     }
-    Value::Is(u64::MAX - (n - 1))
+    Ok(u64::MAX - (n - 1))
 }
 
-fn below_zero(w: &[u8]) -> Value
+fn below_zero(w: &[u8]) -> Result<u64, Why>
     ensures { result ≡ and_then (number_in w.now) negative }
 {
     let v = number(w);
     match v {
-        Value::Is(n) => negative(n),
-        Value::No(why) => Value::No(why),
+        Ok(n) => negative(n),
+        Err(why) => Err(why),
     }
 }
 
-fn count(w: &[u8]) -> Value
+fn count(w: &[u8]) -> Result<u64, Why>
     ensures { result ≡ count_in w.now }
 {
     if w.len() == 0 {
-        return Value::No(Why::NotANumber);
+        return Err(Why::NotANumber);
     }
     if w[0] == b'-' {
         return below_zero(&w[1..]);
     }
     let v = number(w);
     match v {
-        Value::Is(n) => positive(n),
-        Value::No(why) => Value::No(why),
+        Ok(n) => positive(n),
+        Err(why) => Err(why),
     }
 }
 
 // 2 is no flag.
-fn flag(w: &[u8]) -> Value
+fn flag(w: &[u8]) -> Result<u64, Why>
     ensures { result ≡ flag_in w.now }
 {
     if word::same(w, b"yes") {
-        return Value::Is(1);
+        return Ok(1);
     }
     if word::same(w, b"no") {
-        return Value::Is(0);
+        return Ok(0);
     }
-    Value::Is(2)
+    Ok(2)
 }
 
 // 3 is no wish.
-fn wish(w: &[u8]) -> Value
+fn wish(w: &[u8]) -> Result<u64, Why>
     ensures { result ≡ wish_in w.now }
 {
     if word::same(w, b"not-wanted") {
-        return Value::Is(0);
+        return Ok(0);
     }
     if word::same(w, b"writable") {
-        return Value::Is(1);
+        return Ok(1);
     }
     if word::same(w, b"unwritable") {
-        return Value::Is(2);
+        return Ok(2);
     }
-    Value::Is(3)
+    Ok(3)
 }
 
 // Is it `hex:` and then digits?
@@ -172,22 +166,22 @@ pub fn is_hex(w: &[u8]) -> bool
     word::same(&w[..4], b"hex:")
 }
 
-fn name_worth(w: &[u8]) -> Value
+fn name_worth(w: &[u8]) -> Result<u64, Why>
     ensures { result ≡ name_worth w.now }
 {
     if !is_hex(w) {
-        return Value::Is(w.len() as u64);
+        return Ok(w.len() as u64);
     }
     if w.len() % 2 == 1 {
-        return Value::No(Why::NotAName);
+        return Err(Why::NotAName);
     }
     if !all_below(&w[4..], 16) {
-        return Value::No(Why::NotAName);
+        return Err(Why::NotAName);
     }
-    Value::Is(((w.len() - 4) / 2) as u64)
+    Ok(((w.len() - 4) / 2) as u64)
 }
 
-fn worth(kind: u8, w: &[u8]) -> Value
+fn worth(kind: u8, w: &[u8]) -> Result<u64, Why>
     ensures { result ≡ value_in kind w.now }
 {
     match kind {
@@ -200,14 +194,14 @@ fn worth(kind: u8, w: &[u8]) -> Value
 }
 
 // A word that isn't there is worth nothing, but for a room: that may be left out, and is then as large as can be.
-pub fn argument(kind: u8, w: &[u8]) -> Value
+pub fn argument(kind: u8, w: &[u8]) -> Result<u64, Why>
     ensures { result ≡ argument_in kind w.now }
 {
     if w.len() > 0 {
         return worth(kind, w);
     }
     if kind == ROOM {
-        return Value::Is(u64::MAX);
+        return Ok(u64::MAX);
     }
-    Value::No(Why::TooFew)
+    Err(Why::TooFew)
 }

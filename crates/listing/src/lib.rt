@@ -6,7 +6,7 @@ ghost use Rattle.rules.specs.Listing.{listing, room_for, listed_part, listed_buf
 ghost use Rattle.words.specs.Reading.{table_of};
 ghost use Rattle.buffers.specs.Text.{Wrote};
 
-use rules::{Refusal, Room};
+use rules::Refusal;
 use words::Table;
 
 mod line; // a slot's line
@@ -33,27 +33,27 @@ pub fn write_listing(t: &[u64; Table::WORDS], buffer: &mut [u8], at: usize) -> u
     on
 }
 
-pub fn room_for(t: &[u64; Table::WORDS], room: usize) -> Room
+pub fn room_for(t: &[u64; Table::WORDS], room: usize) -> Result<usize, Refusal>
     ensures { result ≡ room_for (table_of t.now) room }
 {
     let n = text_len(t);
     if n <= room {
-        Room::Fits(n)
+        Ok(n)
     } else {
-        Room::Short(Refusal::NoRoom)
+        Err(Refusal::NoRoom)
     }
 }
 
-pub fn dump_into(t: &[u64; Table::WORDS], buffer: &mut [u8]) -> Room
+pub fn dump_into(t: &[u64; Table::WORDS], buffer: &mut [u8]) -> Result<usize, Refusal>
     ensures answer { result ≡ room_for (table_of t.now) (length buffer.old) }
     ensures written { buffer.new ≡ listed_buffer (table_of t.now) buffer.old }
 {
     match room_for(t, buffer.len()) {
-        Room::Fits(n) => {
+        Ok(n) => {
             write_listing(t, buffer, 0);
-            Room::Fits(n)
+            Ok(n)
         }
-        Room::Short(why) => Room::Short(why),
+        Err(why) => Err(why),
     }
 }
 
@@ -63,7 +63,7 @@ pub fn proc_dump<'a>(t: &[u64; Table::WORDS], buffer: &'a mut [u8]) -> &'a mut [
     ensures front { result.ref_ptr ≡ buffer.entry.ref_ptr }
 {
     match dump_into(t, buffer) {
-        Room::Fits(n) => &mut buffer[..n],
-        Room::Short(_) => &mut buffer[..0],
+        Ok(n) => &mut buffer[..n],
+        Err(_) => &mut buffer[..0],
     }
 }

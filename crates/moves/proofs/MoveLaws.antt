@@ -1,7 +1,7 @@
 -- The rules' moves of one slot, as the accessors make them.
+use Rattle.std.specs.Prelude.{Some, None}
 use Prim.Native.Nat.{ℕ}
 use mathlib.Core.Path.{◌≡◌, refl, ap, ◌∙◌}
-use Rattle.rules.specs.declared.Parent.TheVariants.{Nobody, Of}
 use Rattle.rules.specs.declared.Process.{Process}
 use Rattle.rules.specs.Model.{Table, slot, to_runnable, to_running}
 use Rattle.rules.specs.Moves.{change, publish, hand, idle, yield_on}
@@ -14,11 +14,11 @@ module _ (t : Table) (s : ℕ) {u : Table} where
   unfolding publish enqueue with_queue on_core
   publish-law e = ap (on_core (enqueue s)) e
 
-  pub hand-law : (h : ℕ) → u ≡ on_core (change to_running s) t → on_core (with_hart h (Of (slot s))) u ≡ on_core (λ c. hand h s c.queue c) t
+  pub hand-law : (h : ℕ) → u ≡ on_core (change to_running s) t → on_core (with_hart h (Some (slot s))) u ≡ on_core (λ c. hand h s c.queue c) t
   unfolding hand change with_hart on_core
-  hand-law h e = ap (on_core (with_hart h (Of (slot s)))) e
+  hand-law h e = ap (on_core (with_hart h (Some (slot s)))) e
 
-pub idle-law : (t : Table) (h : ℕ) → on_core (with_hart h Nobody) t ≡ on_core (idle h) t
+pub idle-law : (t : Table) (h : ℕ) → on_core (with_hart h None) t ≡ on_core (idle h) t
 unfolding idle with_hart on_core
 idle-law t h = refl
 

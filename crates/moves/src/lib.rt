@@ -7,7 +7,7 @@ ghost use Rattle.rules.specs.Moves.{publish, idle, hand, yield_on, sleep_on, zom
 ghost use Rattle.promises.specs.Order.Chains.{on_core};
 ghost use Rattle.words.specs.Reading.{table_of};
 
-use rules::{Parent, ProcState, Slot};
+use rules::{ProcState, Slot};
 use words::{Table, book, queue, slot};
 
 // The channel that those who wait for slot s sleep on.
@@ -36,14 +36,14 @@ pub fn run_on(t: &mut [u64; Table::WORDS], hart: usize, i: usize)
     slot::set_state(t, i, ProcState::RUNNING);
     slot::set_channel(t, i, 0);
     slot::set_queued(t, i, false);
-    book::set_hart(t, hart, Parent::Of(Slot(i)));
+    book::set_hart(t, hart, Some(Slot(i)));
 }
 
 pub fn idle(t: &mut [u64; Table::WORDS], hart: usize)
     requires { hart < hart_count }
     ensures { table_of t.new ≡ on_core (idle hart) (table_of t.old) }
 {
-    book::set_hart(t, hart, Parent::Nobody);
+    book::set_hart(t, hart, None);
 }
 
 pub fn yield_on(t: &mut [u64; Table::WORDS], hart: usize, caller: usize)

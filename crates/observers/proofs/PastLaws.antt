@@ -1,4 +1,5 @@
 -- What the table is said to have where it has nothing.
+use Rattle.std.specs.Prelude.{Some, None}
 use Prim.Native.Nat.{ℕ, ◌≤◌, ◌<◌}
 use native.Mathlib.Omega.{arith}
 use mathlib.Core.Path.{◌≡◌, sym, ap}
@@ -8,8 +9,6 @@ use lib.ListN.{length, get_or, get_or-eq_default}
 use lib.Dec.{ltb}
 use borrow.Author.Tests.{lt-ltb, le-ltb}
 use Rattle.rules.specs.declared.ProcState.TheVariants.{UNUSED}
-use Rattle.rules.specs.declared.Parent.TheVariants.{Nobody, Of}
-use Rattle.rules.specs.declared.Member.TheVariants.{Alone}
 use Rattle.rules.specs.declared.ProcMeta.{ProcMeta}
 use Rattle.rules.specs.declared.Kin.{Kin}
 use Rattle.rules.specs.declared.Process.{Process}
@@ -27,19 +26,19 @@ module _ (w : List ℕ) where
   unfolding free
   meta-past s b = ap (λ (p : Process). p.meta) (slot-past s b)
 
-  pub kin-past : (s : ℕ) → slot_count ≤ s → ◌≡◌ {A = Kin} (record { group = Alone; parent = Nobody; thread = false; system = false }) (at (table_of w).core s).kin
+  pub kin-past : (s : ℕ) → slot_count ≤ s → ◌≡◌ {A = Kin} (record { group = None; parent = None; thread = false; system = false }) (at (table_of w).core s).kin
   unfolding free
   kin-past s b = ap (λ (p : Process). p.kin) (slot-past s b)
 
-  pub hart-past : (h : ℕ) → hart_count ≤ h → Nobody ≡ hart_at (table_of w).core h
-  hart-past h b = sym (get_or-eq_default (table_of w).core.harts Nobody (omega (arith, b, harts-count w)))
+  pub hart-past : (h : ℕ) → hart_count ≤ h → None ≡ hart_at (table_of w).core h
+  hart-past h b = sym (get_or-eq_default (table_of w).core.harts None (omega (arith, b, harts-count w)))
 
   pub group-past : (g : ℕ) → group_count ≤ g → 0 ≡ (group_at (table_of w).books g).size
   group-past g b = ap (λ (x : Group). x.size) (sym (get_or-eq_default (table_of w).books.groups no_group (omega (arith, b, groups-count w))))
 
 module _ (q : List ℕ) (k : ℕ) where
-  pub queue-past : length q ≤ k → Nobody ≡ cond (ltb k (length q)) (Of (slot (get_or q k 0))) Nobody
+  pub queue-past : length q ≤ k → None ≡ cond (ltb k (length q)) (Some (slot (get_or q k 0))) None
   queue-past b = rw (le-ltb k (length q) b)
 
-  pub queue-in : {s : ℕ} → k < length q → s ≡ get_or q k 0 → Of (slot s) ≡ cond (ltb k (length q)) (Of (slot (get_or q k 0))) Nobody
+  pub queue-in : {s : ℕ} → k < length q → s ≡ get_or q k 0 → Some (slot s) ≡ cond (ltb k (length q)) (Some (slot (get_or q k 0))) None
   queue-in b e = rw (lt-ltb k (length q) b, e)

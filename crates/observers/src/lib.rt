@@ -1,13 +1,12 @@
 // What a user of the table may ask without changing it. A slot, group or hart that the table does not have is as a free one.
 #![tactic(auto)]
 
-ghost use Rattle.std.specs.Prelude.{◌≡◌, cond, ◌≤◌, length, get_or, ltb};
-ghost use Rattle.rules.specs.declared.Parent.TheVariants.{Nobody, Of};
+ghost use Rattle.std.specs.Prelude.{◌≡◌, cond, ◌≤◌, length, get_or, ltb, Some, None};
 ghost use Rattle.rules.specs.Sizes.{slot_count};
 ghost use Rattle.rules.specs.Model.{at, hart_at, group_at, slot};
 ghost use Rattle.words.specs.Reading.{table_of};
 
-use rules::{Kin, Member, Parent, Pid, ProcMeta, ProcState, Slot};
+use rules::{Kin, Pid, ProcMeta, ProcState, Slot};
 use words::{Table, book, queue, slot};
 
 fn meta_of(t: &[u64; Table::WORDS], s: usize) -> ProcMeta
@@ -31,8 +30,8 @@ fn kin_of(t: &[u64; Table::WORDS], s: usize) -> Kin
 {
     if s >= Table::SLOTS {
         return Kin {
-            group: Member::Alone,
-            parent: Parent::Nobody,
+            group: None,
+            parent: None,
             thread: false,
             system: false,
         };
@@ -71,7 +70,7 @@ pub fn pid(t: &[u64; Table::WORDS], s: Slot) -> Pid
     pid
 }
 
-pub fn parent(t: &[u64; Table::WORDS], s: Slot) -> Parent
+pub fn parent(t: &[u64; Table::WORDS], s: Slot) -> Option<Slot>
     ensures { result ≡ (at (table_of t.now).core s.0).kin.parent }
 {
     let k = kin_of(t, s.0);
@@ -79,7 +78,7 @@ pub fn parent(t: &[u64; Table::WORDS], s: Slot) -> Parent
     parent
 }
 
-pub fn group(t: &[u64; Table::WORDS], s: Slot) -> Member
+pub fn group(t: &[u64; Table::WORDS], s: Slot) -> Option<usize>
     ensures { result ≡ (at (table_of t.now).core s.0).kin.group }
 {
     let k = kin_of(t, s.0);
@@ -102,16 +101,16 @@ pub fn is_system_thread(t: &[u64; Table::WORDS], s: Slot) -> bool
 }
 
 // ---- of the table
-pub fn on_hart(t: &[u64; Table::WORDS], hart: usize) -> Parent
+pub fn on_hart(t: &[u64; Table::WORDS], hart: usize) -> Option<Slot>
     ensures { result ≡ hart_at (table_of t.now).core hart }
 {
     if hart >= Table::HARTS {
-        return Parent::Nobody;
+        return None;
     }
     book::hart_at(t, hart)
 }
 
-pub fn init(t: &[u64; Table::WORDS]) -> Parent
+pub fn init(t: &[u64; Table::WORDS]) -> Option<Slot>
     ensures { result ≡ (table_of t.now).books.init }
 {
     book::init(t)
@@ -140,12 +139,12 @@ pub fn queue_len(t: &[u64; Table::WORDS]) -> usize
 }
 
 // The slot with k ahead of it, if there is one.
-pub fn queued(t: &[u64; Table::WORDS], k: usize) -> Parent
+pub fn queued(t: &[u64; Table::WORDS], k: usize) -> Option<Slot>
     requires { length (table_of t.now).core.queue ≤ slot_count }
-    ensures { result ≡ cond (ltb k (length (table_of t.now).core.queue)) (Of (slot (get_or (table_of t.now).core.queue k 0))) Nobody }
+    ensures { result ≡ cond (ltb k (length (table_of t.now).core.queue)) (Some (slot (get_or (table_of t.now).core.queue k 0))) None }
 {
     if k >= queue_len(t) {
-        return Parent::Nobody;
+        return None;
     }
-    Parent::Of(Slot(queue::queued_at(t, k)))
+    Some(Slot(queue::queued_at(t, k)))
 }

@@ -6,7 +6,7 @@ ghost use Rattle.rules.specs.Listing.{digits};
 ghost use Rattle.buffers.specs.Text.{Wrote};
 ghost use Rattle.pieces.specs.Pieces.{number_top, signed_digits, flag_text, place_text, hex_digit, hex_text};
 
-use rules::Parent;
+use rules::Slot;
 
 pub mod digits; // a number in decimal
 pub mod state; // a state's name
@@ -47,14 +47,14 @@ pub fn write_flag(out: &mut [u8], at: usize, label: &[u8], b: bool) -> usize
     buffers::write(out, on, b"0")
 }
 
-pub fn write_place(out: &mut [u8], at: usize, label: &[u8], p: Parent) -> usize
+pub fn write_place(out: &mut [u8], at: usize, label: &[u8], p: Option<Slot>) -> usize
     requires { at + length label.now + number_top ≤ length out.old }
     ensures { Wrote out.old at (label.now ++ place_text p) out.new result × (result ≤ at + length label.now + number_top) }
 {
     let on = buffers::write(out, at, label);
     match p {
-        Parent::Nobody => buffers::write(out, on, b"-"),
-        Parent::Of(s) => write_number(out, on, s.0 as u64),
+        None => buffers::write(out, on, b"-"),
+        Some(s) => write_number(out, on, s.0 as u64),
     }
 }
 

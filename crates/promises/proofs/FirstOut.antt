@@ -1,8 +1,8 @@
 -- First in, first out, over every run: a slot with k ahead is handed out by exactly the (k+1)th successful dispatch.
-use Rattle.std.specs.Prelude.{ℕ, ◌+◌, ◌-◌, ◌<◌, ◌≡◌, refl, ◌≢◌, List, [], ◌∷◌, ◌++◌, length, get_or, eqb}
+use Rattle.std.specs.Prelude.{ℕ, ◌+◌, ◌-◌, ◌<◌, ◌≡◌, refl, ◌≢◌, List, [], ◌∷◌, ◌++◌, length, get_or, eqb, Ok, Err}
 use Rattle.std.proofs.Common.{arith, sym, ap, ◌∙◌, append_assoc, append-nil, length-append, get_or-append-add, eq-eqb}
 use Rattle.std.proofs.Math.ListN.{get_or-append}
-use Rattle.promises.specs.Types.{RUNNABLE, Answer, Done, Made, Handed, Reaped, Joined, Blocked, Refused}
+use Rattle.promises.specs.Types.{RUNNABLE, Answer, Done, Made, Handed, Reaped, Joined, Blocked}
 use Rattle.rules.specs.Model.{Table, at, is}
 use Rattle.rules.specs.Moves.{hand}
 use Rattle.rules.specs.Calls.{Outcome, gives, moves, refuse, spent}
@@ -22,13 +22,13 @@ record Flows (q : List ℕ) (a : List ℕ) (r : List ℕ) : Type 0 where
   split : q ++ new ≡ a ++ r
 
 fair-none : (t u : Table) (a : Answer) → Fair t a u → handed_by a ≡ []
-fair-none t u Done f = refl
-fair-none t u (Made p) f = refl
-fair-none t u (Handed s) f = absurd f
-fair-none t u (Reaped p x) f = refl
-fair-none t u (Joined x) f = refl
-fair-none t u Blocked f = refl
-fair-none t u (Refused r) f = absurd f
+fair-none t u (Ok Done) f = refl
+fair-none t u (Ok (Made p)) f = refl
+fair-none t u (Ok (Handed s)) f = absurd f
+fair-none t u (Ok (Reaped p x)) f = refl
+fair-none t u (Ok (Joined x)) f = refl
+fair-none t u (Ok Blocked) f = refl
+fair-none t u (Err r) f = absurd f
 
 ended-flows : {c : Call} {t : Table} {o : Outcome} → Ended c t o → Flows t.core.queue (handed_by o.answer) o.table.core.queue
 unfolding refuse gives moves spent hand

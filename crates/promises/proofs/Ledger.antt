@@ -1,9 +1,8 @@
 -- Pids, groups and unused slots, over every run: a pid is never given again, a count is the number of slots, an UNUSED slot is a freed one.
-use Rattle.std.specs.Prelude.{ℕ, zero, suc, ◌+◌, ◌≤◌, ◌<◌, ◌≡◌, refl, not, List, [], ◌∷◌, ◌++◌, length, get_or}
+use Rattle.std.specs.Prelude.{ℕ, zero, suc, ◌+◌, ◌≤◌, ◌<◌, ◌≡◌, refl, not, List, [], ◌∷◌, ◌++◌, length, get_or, Option, Some, None, Ok, Err}
 use Rattle.std.proofs.Common.{arith, not-suc-le-zero, le_of_suc-le-suc, eqb-true}
-use Rattle.std.proofs.Math.Option.{Option, none, some}
 use Rattle.std.proofs.lemmas.Bool.{not-true}
-use Rattle.promises.specs.Types.{UNUSED, NoneSuch, Answer, Done, Made, Handed, Reaped, Joined, Blocked, Refused}
+use Rattle.promises.specs.Types.{UNUSED, NoneSuch, Answer, Done, Made, Handed, Reaped, Joined, Blocked}
 use Rattle.rules.specs.Model.{Table, at, free, is, fresh, pid}
 use Rattle.rules.specs.Moves.{lowest, slay, spend}
 use Rattle.rules.specs.Calls.{Outcome, gives, moves, refuse, spent, found, has_pid, killed}
@@ -55,13 +54,13 @@ rises-cons n p k l r w = record { above = above; rising = rising; grown = omega 
     rising (suc i) (suc j) a q = w.rising i j (le_of_suc-le-suc a) (le_of_suc-le-suc q)
 
 fair-rises : (t u : Table) (a : Answer) (l : List ℕ) (k : ℕ) → Fair t a u → Rises u.books.pids l k → Rises t.books.pids (given_by a ++ l) k
-fair-rises t u Done l k f w = rw (← f) w
-fair-rises t u (Made p) l k f w = rises-cons t.books.pids p.0 k l (omega (arith, f.0)) (rw (f.0, ← f.1) w)
-fair-rises t u (Handed s) l k f w = absurd f
-fair-rises t u (Reaped p x) l k f w = rw (← f) w
-fair-rises t u (Joined x) l k f w = rw (← f) w
-fair-rises t u Blocked l k f w = rw (← f) w
-fair-rises t u (Refused r) l k f w = absurd f
+fair-rises t u (Ok Done) l k f w = rw (← f) w
+fair-rises t u (Ok (Made p)) l k f w = rises-cons t.books.pids p.0 k l (omega (arith, f.0)) (rw (f.0, ← f.1) w)
+fair-rises t u (Ok (Handed s)) l k f w = absurd f
+fair-rises t u (Ok (Reaped p x)) l k f w = rw (← f) w
+fair-rises t u (Ok (Joined x)) l k f w = rw (← f) w
+fair-rises t u (Ok Blocked) l k f w = rw (← f) w
+fair-rises t u (Err r) l k f w = absurd f
 
 ended-rises : {c : Call} {t : Table} {o : Outcome} (l : List ℕ) (k : ℕ) → Ended c t o → Rises o.table.books.pids l k → Rises t.books.pids (given_by o.answer ++ l) k
 unfolding refuse gives moves spent spend
@@ -87,13 +86,13 @@ pid-new before after s i l = let w = reached-sound before in omega (arith, w.num
 -- ---- kill 0 gives 10 always
 pub kill-nobody : (cs : List Call) → step (reached cs) (kill (pid 0)) ≡ refuse NoneSuch (reached cs)
 unfolding step killed found has_pid
-kill-nobody cs = go (λ i. moves Done (slay i t.core) t) (lowest (has_pid (pid 0)) t.core.slots) refl
+kill-nobody cs = go (λ i. moves (Ok Done) (slay i t.core) t) (lowest (has_pid (pid 0)) t.core.slots) refl
   where
     t : Table
     t = reached cs
 
     go : (k : ℕ → Outcome) (o : Option ℕ) → lowest (has_pid (pid 0)) t.core.slots ≡ o → found NoneSuch t o k ≡ refuse NoneSuch t
-    go k none e = refl
-    go k (some i) e =
+    go k None e = refl
+    go k (Some i) e =
         let h = lowest-passes (has_pid (pid 0)) t.core.slots free i e in
         absurd (omega (arith, (reached-sound cs).numbered.low i (not-true _ (and_left _ _ h)), eqb-true (at t.core i).meta.pid.0 0 (and_right (not (is UNUSED (at t.core i))) _ h)))

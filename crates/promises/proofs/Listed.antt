@@ -1,7 +1,6 @@
 -- The listing of every reached table: listing_top bytes always suffice, and the digits it writes for a pid say that pid.
-use Rattle.std.specs.Prelude.{ℕ, zero, suc, ◌≤◌, ◌≡◌, refl, List, [], length, replicate}
+use Rattle.std.specs.Prelude.{ℕ, zero, suc, ◌≤◌, ◌≡◌, refl, List, [], length, replicate, Ok}
 use Rattle.std.proofs.Common.{arith, le-leb}
-use Rattle.promises.specs.Types.{Fits}
 use Rattle.rules.specs.Sizes.{slot_count, listing_top}
 use Rattle.rules.specs.Model.{at, free, fresh}
 use Rattle.rules.specs.Listing.{digits, lines_of, listing, fits_in, room_for, listed_part}
@@ -17,7 +16,7 @@ listing-bounded cs = let w = reached-sound cs in listing-short (reached cs) w.qu
 
 -- a buffer of that size gets the text
 pub listing-suffices : (cs : List Call) (b : List ℕ) → listing_top ≤ length b
-    → (listed_part (reached cs) b ≡ listing (reached cs)) × (room_for (reached cs) (length b) ≡ Fits (length (listing (reached cs))))
+    → (listed_part (reached cs) b ≡ listing (reached cs)) × (room_for (reached cs) (length b) ≡ Ok (length (listing (reached cs))))
 unfolding listed_part room_for fits_in
 listing-suffices cs b l = let e = le-leb (length (listing (reached cs))) (length b) (omega (arith, listing-bounded cs)) in (rw e, rw e)
 
@@ -34,6 +33,6 @@ fresh-empty : listing fresh ≡ []
 unfolding listing fresh
 fresh-empty = free-lines slot_count
 
-pub fresh-fits : (room : ℕ) → room_for fresh room ≡ Fits 0
+pub fresh-fits : (room : ℕ) → room_for fresh room ≡ Ok 0
 unfolding room_for fits_in
 fresh-fits room = rw (fresh-empty, le-leb 0 room (omega arith))

@@ -1,9 +1,9 @@
 -- What the Rust panics about cannot happen: its tests on the queue, parents and groups, of every sound table, so also half way through a call.
-use Rattle.std.specs.Prelude.{ℕ, ◌<◌, ◌≡◌, ◌⊎◌, Bool, List, ◌∷◌, length, get_or, eqb}
+use Rattle.std.specs.Prelude.{ℕ, ◌<◌, ◌≡◌, ◌⊎◌, Bool, List, ◌∷◌, length, get_or, eqb, Option, Some, None}
 use Rattle.std.proofs.Math.Path.{refl}
 use Rattle.std.proofs.Common.{ap, ◌∙◌, inl, inr, eq-eqb}
 use Rattle.std.proofs.Math.Bool.{true, false}
-use Rattle.promises.specs.Types.{ProcState, UNUSED, ALLOCATED, RUNNABLE, RUNNING, SLEEPING, ZOMBIE, Parent, Nobody, Of, Member, Process}
+use Rattle.promises.specs.Types.{ProcState, UNUSED, ALLOCATED, RUNNABLE, RUNNING, SLEEPING, ZOMBIE, Process, Slot}
 use Rattle.rules.specs.Sizes.{slot_count}
 use Rattle.rules.specs.Model.{Table, at, free, is, is_slot, known, slot, state_code}
 use Rattle.rules.specs.Moves.{reparent}
@@ -67,7 +67,7 @@ module _ (t : Table) (w : Sound t) where
       go false y = refl
 
   -- a parent is a used slot and no system thread
-  parent-grouped : (s q : ℕ) → (at t.core s).kin.parent ≡ Of (slot q) → is_in (at t.core q).kin.group ≡ true
+  parent-grouped : (s q : ℕ) → (at t.core s).kin.parent ≡ Some (slot q) → is_in (at t.core q).kin.group ≡ true
   parent-grouped s q e = let p = w.raised.elder s q (ap (is_slot q) e ∙ eq-eqb q q refl) in (w.tidy q).group p.used p.user
 
   -- "Fail to find parent process": where exit reads the parent, after the threads are reaped and the children handed over, there is one
@@ -75,7 +75,7 @@ module _ (t : Table) (w : Sound t) where
       → let u = reap_threads (at t.core s).kin.group t in known (at (reparent u.books.init s u.core) s).kin.parent ≡ true
   exit-has-parent h s e y n = (v-sound.tidy s).child (runs-used h s v.core v-sound.queued there) system (spared-init ∙ n)
     where
-      m : Member
+      m : Option ℕ
       m = (at t.core s).kin.group
 
       u : Table
@@ -97,7 +97,7 @@ module _ (t : Table) (w : Sound t) where
       spared-init = ap (is_slot s) spared.init
 
       there : runs v h s
-      there = ap (λ (l : List Parent). get_or l h Nobody) ((reparent-steady u.books.init s u.core).harts ∙ spared.harts) ∙ e
+      there = ap (λ (l : List (Option Slot)). get_or l h None) ((reparent-steady u.books.init s u.core).harts ∙ spared.harts) ∙ e
 
       system : (at v.core s).kin.system ≡ false
       system = (reparent-steady u.books.init s u.core).system s ∙ ap (λ (p : Process). p.kin.system) spared.slot ∙ y

@@ -1,5 +1,5 @@
 -- Every slot, hart and group that is read is one that the table has: what the definitions say beyond is never asked.
-use Rattle.std.specs.Prelude.{ℕ, ◌≤◌, ◌<◌, ◌≡◌, Bool, List, get_or}
+use Rattle.std.specs.Prelude.{ℕ, ◌≤◌, ◌<◌, ◌≡◌, Bool, List, get_or, Option, Some, None}
 use native.Mathlib.Omega.{arith}
 use Rattle.std.proofs.Math.Path.{refl}
 use Rattle.std.proofs.Common.{ap, ◌∙◌}
@@ -7,7 +7,7 @@ use Rattle.std.proofs.Math.Bool.{true, false}
 use Rattle.std.proofs.Math.ListN.{length, get_or-eq_default}
 use Rattle.std.proofs.Math.Dec.{leb}
 use borrow.Author.Tests.{eq-eqb, leb-true, leb-false}
-use Rattle.promises.specs.Types.{UNUSED, RUNNABLE, Parent, Nobody, Of, Member, Alone, In, Process}
+use Rattle.promises.specs.Types.{UNUSED, RUNNABLE, Process, Slot}
 use Rattle.rules.specs.Sizes.{slot_count, group_count}
 use Rattle.rules.specs.Model.{Table, at, hart_at, group_at, free, no_group, is, is_slot, same_group}
 use Rattle.rules.specs.Runs.{Call}
@@ -26,16 +26,16 @@ module _ (t : Table) (w : Sound t) where
   used-in : (s : ℕ) → is UNUSED (at t.core s) ≡ false → s < slot_count
   used-in s u = omega (arith, w.queued.tall, used-range t.core.slots s u)
 
-  used-slot : (p : Parent) → ((s : ℕ) → is_slot s p ≡ true → is UNUSED (at t.core s) ≡ false) → InTable p
-  used-slot Nobody u = tt
-  used-slot (Of s) u = used-in s.0 (u s.0 (eq-eqb s.0 s.0 refl))
+  used-slot : (p : Option Slot) → ((s : ℕ) → is_slot s p ≡ true → is UNUSED (at t.core s) ≡ false) → InTable p
+  used-slot None u = tt
+  used-slot (Some s) u = used-in s.0 (u s.0 (eq-eqb s.0 s.0 refl))
 
-  held_in : (p : Parent) (h : ℕ) → hart_at t.core h ≡ p → InTable p
-  held_in Nobody h e = tt
-  held_in (Of s) h e = omega (arith, w.queued.tall, runs-range h s.0 t.core w.queued e)
+  held_in : (p : Option Slot) (h : ℕ) → hart_at t.core h ≡ p → InTable p
+  held_in None h e = tt
+  held_in (Some s) h e = omega (arith, w.queued.tall, runs-range h s.0 t.core w.queued e)
 
   -- a slot past the table has no group
-  grouped-range : (s g : ℕ) → (at t.core s).kin.group ≡ In g → s < length t.core.slots
+  grouped-range : (s g : ℕ) → (at t.core s).kin.group ≡ Some g → s < length t.core.slots
   unfolding free
   grouped-range s g e = go (leb (length t.core.slots) s) refl
     where
@@ -43,16 +43,16 @@ module _ (t : Table) (w : Sound t) where
       go true r = absurd (clash (ap is_in e) (ap (λ (p : Process). is_in p.kin.group) (get_or-eq_default t.core.slots free (leb-true _ s r))))
       go false r = leb-false _ s r
 
-  counted-in : (s g : ℕ) → (at t.core s).kin.group ≡ In g → 1 ≤ (group_at t.books g).count
+  counted-in : (s g : ℕ) → (at t.core s).kin.group ≡ Some g → 1 ≤ (group_at t.books g).count
   counted-in s g e = omega (
     arith,
     w.counted.count g,
-    tally-one (names g) t.core.slots free s (grouped-range s g e) (ap (same_group (In g)) e ∙ eq-eqb g g refl),
+    tally-one (names g) t.core.slots free s (grouped-range s g e) (ap (same_group (Some g)) e ∙ eq-eqb g g refl),
   )
 
-  group-in : (m : Member) (s : ℕ) → (at t.core s).kin.group ≡ m → InGroups m
-  group-in Alone s e = tt
-  group-in (In g) s e = go (leb (length t.books.groups) g) refl
+  group-in : (m : Option ℕ) (s : ℕ) → (at t.core s).kin.group ≡ m → InGroups m
+  group-in None s e = tt
+  group-in (Some g) s e = go (leb (length t.books.groups) g) refl
     where
       go : (b : Bool) → leb (length t.books.groups) g ≡ b → g < group_count
       go true r = absurd (omega (arith, counted-in s g e, ap (λ x. x.count) (get_or-eq_default t.books.groups no_group (leb-true _ g r))))

@@ -1,7 +1,7 @@
 -- A slot comes into the queue only from ALLOCATED, RUNNING or SLEEPING: in every move, and every call is made of moves (Calls/Steps.antt).
-use Rattle.std.specs.Prelude.{ℕ, ◌≡◌, refl, Bool, true, false, List, get_or, set}
+use Rattle.std.specs.Prelude.{ℕ, ◌≡◌, refl, Bool, true, false, List, get_or, set, Option}
 use Rattle.std.proofs.Common.{inl, inr}
-use Rattle.promises.specs.Types.{RUNNABLE, SLEEPING, Parent, Process}
+use Rattle.promises.specs.Types.{RUNNABLE, SLEEPING, Process, Slot}
 use Rattle.rules.specs.Sizes.{slot_count}
 use Rattle.rules.specs.Model.{Core, Table, at, free, taken, is, to_runnable, with_parent}
 use Rattle.rules.specs.Moves.{change, publish, idle, yield_on, sleep_on, zombie_on, publish_if, sleeps_on, wake_one, wake, wake_of, reap}
@@ -38,17 +38,17 @@ wake-woken ch c = sweep-keeps (λ (d : Core). (j : ℕ) → Woken (at c j) (at d
     go s d w true e = all_set (λ j. Woken (at c j)) d.slots s (to_runnable (at d s)) free w (woken-one (at c s) (at d s) (w s) (and_left _ _ e))
     go s d w false e = w
 
-wake_of-came : (p : Parent) (c : Core) (j : ℕ) → is RUNNABLE (at (wake_of p c) j) ≡ true → From (at c j)
+wake_of-came : (p : Option Slot) (c : Core) (j : ℕ) → is RUNNABLE (at (wake_of p c) j) ≡ true → From (at c j)
 wake_of-came p c j = wake_of-any (λ (d : Core). is RUNNABLE (at d j) ≡ true → From (at c j)) c waited (λ ch. (wake-woken ch c j).ready) p
 
 -- another parent is no other state
-from-parent : (q : Parent) (p : Process) → From (with_parent q p) → From p
+from-parent : (q : Option Slot) (p : Process) → From (with_parent q p) → From p
 from-parent q p (waited e) = waited e
 from-parent q p (from_allocated e) = from_allocated e
 from-parent q p (from_running e) = from_running e
 from-parent q p (from_sleeping e) = from_sleeping e
 
-adopted-from : (q : Parent) (l : List Process) (i j : ℕ) → From (get_or (set l i (with_parent q (get_or l i free))) j free) → From (get_or l j free)
+adopted-from : (q : Option Slot) (l : List Process) (i j : ℕ) → From (get_or (set l i (with_parent q (get_or l i free))) j free) → From (get_or l j free)
 adopted-from q l i j = rel-set (λ p y. From y → From p) (λ p f. f) l i (with_parent q (get_or l i free)) free (from-parent q (get_or l i free)) j
 
 pub published-from : {t u : Table} → Sound t → Move t u → (j : ℕ) → is RUNNABLE (at u.core j) ≡ true → From (at t.core j)

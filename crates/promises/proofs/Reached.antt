@@ -1,8 +1,8 @@
 -- A fresh table is sound, each call keeps it so, and so every table that calls make of a fresh one is sound.
-use Rattle.std.specs.Prelude.{ℕ, ◌≡◌, refl, true, false, List, [], ◌∷◌, get_or, replicate}
+use Rattle.std.specs.Prelude.{ℕ, ◌≡◌, refl, true, false, List, [], ◌∷◌, get_or, replicate, None}
 use Rattle.std.proofs.Common.{arith, sym, ap, ◌∙◌}
 use Rattle.std.proofs.lemmas.List.{length-replicate}
-use Rattle.promises.specs.Types.{UNUSED, SLEEPING, Nobody}
+use Rattle.promises.specs.Types.{UNUSED, SLEEPING}
 use Rattle.rules.specs.Sizes.{slot_count, group_count, hart_count, own_channel}
 use Rattle.rules.specs.Model.{Table, at, no_group, free, is, is_slot, fresh}
 use Rattle.rules.specs.Moves.{sleeps_on}
@@ -29,9 +29,9 @@ fresh-queued : Queued fresh.core
 unfolding fresh tally free
 fresh-queued = record {
   queue = λ s. rw (same-all slot_count free s);
-  harts = λ s. rw (same-all slot_count free s) (tally-none (is_slot s) hart_count Nobody refl);
+  harts = λ s. rw (same-all slot_count free s) (tally-none (is_slot s) hart_count None refl);
   flag = λ s. rw (same-all slot_count free s);
-  wide = length-replicate hart_count Nobody;
+  wide = length-replicate hart_count None;
   tall = length-replicate slot_count free;
 }
 

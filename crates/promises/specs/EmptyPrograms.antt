@@ -1,7 +1,7 @@
 -- Document 01's five empty programs, each shut out by the definition or the promise that it names.
-use Rattle.std.specs.Prelude.{ℕ, ◌<◌, ◌≡◌, refl, Bool, true, false, cond, List, [], ◌∷◌, length}
+use Rattle.std.specs.Prelude.{ℕ, ◌<◌, ◌≡◌, refl, Bool, true, false, cond, List, [], ◌∷◌, length, Result, Ok, Err}
 use Rattle.std.proofs.Common.{arith, sym, ap, ◌∙◌}
-use Rattle.promises.specs.Types.{Slot, UNUSED, Refusal, NoRoom, Made, Handed, Refused, Room, Fits, Short}
+use Rattle.promises.specs.Types.{Slot, UNUSED, Refusal, NoRoom, Made, Handed}
 use Rattle.rules.specs.Model.{Table, at, is, pid, slot}
 use Rattle.rules.specs.Calls.{Outcome}
 use Rattle.rules.specs.Listing.{listing, fits_in, room_for}
@@ -33,15 +33,15 @@ one-waits = refl
 -- ---- one refusing everything: by demand 2's definition, and by demand 3's dispatch rule
 pub record RefusesAll (f : Table → Call → Outcome) : Type 0 where
   pub why : Table → Call → Refusal
-  pub refuses : (t : Table) (c : Call) → (f t c).answer ≡ Refused (why t c)
+  pub refuses : (t : Table) (c : Call) → (f t c).answer ≡ Err (why t c)
 
-boots : (step (reached []) boot).answer ≡ Made (pid 1)
+boots : (step (reached []) boot).answer ≡ Ok (Made (pid 1))
 unfolding everything
 boots = refl
 
 pub refuses-all-defined : (f : Table → Call → Outcome) → RefusesAll f → Meets f → ⊥
 refuses-all-defined f r m =
-    let e : Refused (r.why (reached []) boot) ≡ Made (pid 1) = sym (r.refuses (reached []) boot) ∙ ap (λ (o : Outcome). o.answer) (m.same [] boot) ∙ boots in
+    let e : Err (r.why (reached []) boot) ≡ Ok (Made (pid 1)) = sym (r.refuses (reached []) boot) ∙ ap (λ (o : Outcome). o.answer) (m.same [] boot) ∙ boots in
     let z : ◌≡◌ {A = ℕ} 0 1 = cc in omega arith
 
 -- what demand 3 asks of the first dispatch where slot 0 waits, and where slot 1 waits before it
@@ -61,11 +61,11 @@ refuses-all-dispatch f r d =
 
 -- ---- one giving the same slot always: by the (k+1)th dispatch
 abbrev pub GivesOnly : (Table → Call → Outcome) → Slot → Type 0
-GivesOnly f s = (t : Table) (h : ℕ) (x : Slot) → (f t (dispatch h)).answer ≡ Handed x → x ≡ s
+GivesOnly f s = (t : Table) (h : ℕ) (x : Slot) → (f t (dispatch h)).answer ≡ Ok (Handed x) → x ≡ s
 
 -- by first in, first out: where two slots wait, it can't grant two dispatches, as the second is due to the slot that the first left there
 pub same-slot-in-turn : (f : Table → Call → Outcome) (s : Slot) → GivesOnly f s → FirstInFirstOut f → (before : List Call) (g h : ℕ) (x y : Slot) → 1 < length (reached before).core.queue
-    → (f (reached before) (dispatch g)).answer ≡ Handed x → (f (f (reached before) (dispatch g)).table (dispatch h)).answer ≡ Handed y → ⊥
+    → (f (reached before) (dispatch g)).answer ≡ Ok (Handed x) → (f (f (reached before) (dispatch g)).table (dispatch h)).answer ≡ Ok (Handed y) → ⊥
 unfolding FirstInFirstOut run_by handed_out
 same-slot-in-turn f s k p before g h x y two a b =
     let turn = rw (a, b) at (p before (dispatch g ∷ dispatch h ∷ []) 1 two) in
@@ -95,18 +95,18 @@ pub frozen-table : (f : Table → Call → Outcome) → ((t : Table) (c : Call) 
 frozen-table f k d = omega (arith, ap length (sym one-waits ∙ ap (λ (t : Table). t.core.queue) (sym (k (reached waiting) (dispatch 0))) ∙ (one-granted f d).queue))
 
 -- ---- one that empties the queue at the first dispatch: the rest must still be there
-pub empties-queue : (f : Table → Call → Outcome) → ((t : Table) (h : ℕ) (x : Slot) → (f t (dispatch h)).answer ≡ Handed x → (f t (dispatch h)).table.core.queue ≡ []) → DispatchRule f → ⊥
+pub empties-queue : (f : Table → Call → Outcome) → ((t : Table) (h : ℕ) (x : Slot) → (f t (dispatch h)).answer ≡ Ok (Handed x) → (f t (dispatch h)).table.core.queue ≡ []) → DispatchRule f → ⊥
 empties-queue f k d = let g = two-granted f d in omega (arith, ap length (sym g.queue ∙ k (reached two-waiting) 0 (slot 1) g.answer))
 
 -- ---- one with invented listing lengths: by the text's definition
-pub record MeetsText (g : Table → ℕ → Room) : Type 0 where
+pub record MeetsText (g : Table → ℕ → Result ℕ Refusal) : Type 0 where
   pub same : (before : List Call) (room : ℕ) → g (reached before) room ≡ room_for (reached before) room
 
 -- whoever meets it and answers a length answers the text's
-pub invented-length : (g : Table → ℕ → Room) → MeetsText g → (before : List Call) (room n : ℕ) → g (reached before) room ≡ Fits n → n ≡ length (listing (reached before))
+pub invented-length : (g : Table → ℕ → Result ℕ Refusal) → MeetsText g → (before : List Call) (room n : ℕ) → g (reached before) room ≡ Ok n → n ≡ length (listing (reached before))
 unfolding room_for
 invented-length g m before room n e = go (fits_in (reached before) room) (sym (m.same before room) ∙ e)
   where
-    go : (b : Bool) → cond b (Fits (length (listing (reached before)))) (Short NoRoom) ≡ Fits n → n ≡ length (listing (reached before))
+    go : (b : Bool) → cond b (Ok (length (listing (reached before)))) (Err NoRoom) ≡ Ok n → n ≡ length (listing (reached before))
     go true p = cc
     go false p = cc

@@ -1,6 +1,6 @@
 -- First in, first out, over every run: a slot with k ahead is handed out by exactly the (k+1)th successful dispatch.
-use Rattle.std.specs.Prelude.{ℕ, ◌-◌, ◌≤◌, ◌<◌, ◌≡◌, ◌≢◌, List, [], ◌∷◌, ◌++◌, length, get_or}
-use Rattle.promises.specs.Types.{Answer, Done, Made, Handed, Reaped, Joined, Blocked, Refused}
+use Rattle.std.specs.Prelude.{ℕ, ◌-◌, ◌≤◌, ◌<◌, ◌≡◌, ◌≢◌, List, [], ◌∷◌, ◌++◌, length, get_or, Ok, Err}
+use Rattle.promises.specs.Types.{Answer, Done, Made, Handed, Reaped, Joined, Blocked}
 use Rattle.rules.specs.Model.{Table}
 use Rattle.rules.specs.Calls.{Outcome}
 use Rattle.rules.specs.Runs.{Call, run_by}
@@ -8,13 +8,13 @@ use Rattle.promises.specs.Reached.{reached}
 
 -- the slots that answers hand out, in order: one for each successful dispatch
 abbrev pub handed_by : Answer → List ℕ
-handed_by Done = []
-handed_by (Made p) = []
-handed_by (Handed s) = s.0 ∷ []
-handed_by (Reaped p x) = []
-handed_by (Joined x) = []
-handed_by Blocked = []
-handed_by (Refused r) = []
+handed_by (Ok Done) = []
+handed_by (Ok (Made p)) = []
+handed_by (Ok (Handed s)) = s.0 ∷ []
+handed_by (Ok (Reaped p x)) = []
+handed_by (Ok (Joined x)) = []
+handed_by (Ok Blocked) = []
+handed_by (Err r) = []
 
 unfoldable pub handed_out : List Answer → List ℕ
 handed_out [] = []

@@ -1,6 +1,6 @@
 -- Pids, groups and unused slots, over every run: a pid is never given again, a count is the number of slots, an UNUSED slot is a freed one.
-use Rattle.std.specs.Prelude.{ℕ, ◌≤◌, ◌≡◌, true, false, List, [], ◌∷◌, ◌++◌}
-use Rattle.promises.specs.Types.{UNUSED, Answer, Done, Made, Handed, Reaped, Joined, Blocked, Refused}
+use Rattle.std.specs.Prelude.{ℕ, ◌≤◌, ◌≡◌, true, false, List, [], ◌∷◌, ◌++◌, Ok, Err}
+use Rattle.promises.specs.Types.{UNUSED, Answer, Done, Made, Handed, Reaped, Joined, Blocked}
 use Rattle.rules.specs.Sizes.{pid_top, size_top}
 use Rattle.rules.specs.Model.{Table, at, group_at, free, is}
 use Rattle.promises.specs.Laws.Counts.{tally}
@@ -22,13 +22,13 @@ pub record Ledger (t : Table) : Type 0 where
 -- ---- a pid is never given again
 -- the pids that answers give, in order
 abbrev pub given_by : Answer → List ℕ
-given_by Done = []
-given_by (Made p) = p.0 ∷ []
-given_by (Handed s) = []
-given_by (Reaped p x) = []
-given_by (Joined x) = []
-given_by Blocked = []
-given_by (Refused r) = []
+given_by (Ok Done) = []
+given_by (Ok (Made p)) = p.0 ∷ []
+given_by (Ok (Handed s)) = []
+given_by (Ok (Reaped p x)) = []
+given_by (Ok (Joined x)) = []
+given_by (Ok Blocked) = []
+given_by (Err r) = []
 
 unfoldable pub pids_given : List Answer → List ℕ
 pids_given [] = []

@@ -1,6 +1,6 @@
 -- Runs for sentences of document 01 that its starred runs leave out: one list, one claim; and its numbers.
-use Rattle.std.specs.Prelude.{ℕ, ◌-◌, ◌≡◌, refl, true, false, List, [], ◌∷◌, map, replicate, pos, negsuc}
-use Rattle.promises.specs.Types.{Mapped, NotWanted, Writable, Unwritable, NoSuchHart, HartIdle, HartBusy, QueueEmpty, TableFull, PidsSpent, NoGroup, BadAddress, Unmapped, NoneSuch, StatusUnwritable, InitOutOfTurn, WrongWayOut, NotADevice, NameTooLong, NoRoom, SizeOutOfLimits, NoMemory, Answer, Done, Made, Handed, Reaped, Joined, Blocked, Refused, Fits}
+use Rattle.std.specs.Prelude.{ℕ, ◌-◌, ◌≡◌, refl, true, false, List, [], ◌∷◌, map, replicate, pos, negsuc, Ok, Err}
+use Rattle.promises.specs.Types.{Mapped, NotWanted, Writable, Unwritable, NoSuchHart, HartIdle, HartBusy, QueueEmpty, TableFull, PidsSpent, NoGroup, BadAddress, Unmapped, NoneSuch, StatusUnwritable, InitOutOfTurn, WrongWayOut, NotADevice, NameTooLong, NoRoom, SizeOutOfLimits, NoMemory, Answer, Done, Made, Handed, Reaped, Joined, Blocked}
 use Rattle.rules.specs.Sizes.{slot_count, group_count, hart_count, first_device, name_size, pid_top, page_size, trampoline, trapframe, kernel_stack, user_sp, system_sp, thread_trapframe, size_top, listing_top}
 use Rattle.rules.specs.Answers.{number_of}
 use Rattle.rules.specs.Model.{pid, slot}
@@ -22,61 +22,61 @@ up_behind cs = spawn [] 0 ∷ boot ∷ start ∷ dispatch 0 ∷ dispatch 1 ∷ c
 unfoldable pub more_runs : List Case
 more_runs =
     -- killed: no ZOMBIE child, so 10; and the mark outlives a dispatch
-    plain (up (fork 0 true ∷ kill (pid 1) ∷ wait 0 Writable ∷ yield 0 ∷ dispatch 1 ∷ dispatch 0 ∷ wait 0 Writable ∷ [])) (Done ∷ Refused NoneSuch ∷ Done ∷ Handed (slot 1) ∷ Handed (slot 0) ∷ Refused NoneSuch ∷ []) []
+    plain (up (fork 0 true ∷ kill (pid 1) ∷ wait 0 Writable ∷ yield 0 ∷ dispatch 1 ∷ dispatch 0 ∷ wait 0 Writable ∷ [])) (Ok Done ∷ Err NoneSuch ∷ Ok Done ∷ Ok (Handed (slot 1)) ∷ Ok (Handed (slot 0)) ∷ Err NoneSuch ∷ []) []
     -- kill publishes a sleeper
-    ∷ plain (spawn [] 0 ∷ dispatch 0 ∷ sleep 0 first_device ∷ kill (pid 1) ∷ []) (Done ∷ Done ∷ []) (0 ∷ [])
+    ∷ plain (spawn [] 0 ∷ dispatch 0 ∷ sleep 0 first_device ∷ kill (pid 1) ∷ []) (Ok Done ∷ (Ok Done) ∷ []) (0 ∷ [])
     -- the whole 64-bit status
-    ∷ plain (up (fork 0 true ∷ dispatch 1 ∷ exit 1 4294967303 ∷ wait 0 Unwritable ∷ wait 0 NotWanted ∷ [])) (Refused StatusUnwritable ∷ Reaped (pid 2) 4294967303 ∷ []) []
-    ∷ plain (up (ask 0 0 ∷ dispatch 1 ∷ thread_exit 1 3 ∷ join 0 (pid 2) Unwritable ∷ join 0 (pid 2) NotWanted ∷ [])) (Refused StatusUnwritable ∷ Joined (pos 3) ∷ []) []
+    ∷ plain (up (fork 0 true ∷ dispatch 1 ∷ exit 1 4294967303 ∷ wait 0 Unwritable ∷ wait 0 NotWanted ∷ [])) (Err StatusUnwritable ∷ Ok (Reaped (pid 2) 4294967303) ∷ []) []
+    ∷ plain (up (ask 0 0 ∷ dispatch 1 ∷ thread_exit 1 3 ∷ join 0 (pid 2) Unwritable ∷ join 0 (pid 2) NotWanted ∷ [])) (Err StatusUnwritable ∷ Ok (Joined (pos 3)) ∷ []) []
     -- memory
-    ∷ plain (up (fork 0 false ∷ fork 0 true ∷ grow 0 (pos 1) false ∷ grow 0 (pos 0) false ∷ grow 0 (negsuc 0) false ∷ [])) (Refused NoMemory ∷ Made (pid 3) ∷ Refused NoMemory ∷ Done ∷ Done ∷ []) (1 ∷ [])
+    ∷ plain (up (fork 0 false ∷ fork 0 true ∷ grow 0 (pos 1) false ∷ grow 0 (pos 0) false ∷ grow 0 (negsuc 0) false ∷ [])) (Err NoMemory ∷ Ok (Made (pid 3)) ∷ Err NoMemory ∷ Ok Done ∷ (Ok Done) ∷ []) (1 ∷ [])
     -- a grown size counts, for the caller and for a child; a shrunk one too
     ∷ plain (up (ask 4096 0 ∷ grow 0 (pos 4096) true ∷ ask 4096 0 ∷ fork 0 true ∷ dispatch 1 ∷ dispatch 2 ∷ thread_on 2 4096 0 1 mapped ∷ grow 0 (negsuc 4095) true ∷ ask 4096 0 ∷ []))
-    (Refused BadAddress ∷ Done ∷ Made (pid 2) ∷ Made (pid 3) ∷ Handed (slot 1) ∷ Handed (slot 2) ∷ Made (pid 4) ∷ Done ∷ Refused BadAddress ∷ []) (3 ∷ [])
+    (Err BadAddress ∷ Ok Done ∷ Ok (Made (pid 2)) ∷ Ok (Made (pid 3)) ∷ Ok (Handed (slot 1)) ∷ Ok (Handed (slot 2)) ∷ Ok (Made (pid 4)) ∷ Ok Done ∷ Err BadAddress ∷ []) (3 ∷ [])
     -- alignment, return, order of 8 and 9, each host answer
     ∷ plain (up (grow 0 (pos 4096) true ∷ thread_on 0 1 0 1 mapped ∷ thread_on 0 0 0 8192 mapped ∷ thread_on 0 1 0 1 (record { entry = false; ret = true; stack = true; top = true })
     ∷ thread_on 0 0 0 1 (record { entry = false; ret = true; stack = true; top = true }) ∷ thread_on 0 0 0 1 (record { entry = true; ret = false; stack = true; top = true })
     ∷ thread_on 0 0 0 1 (record { entry = true; ret = true; stack = false; top = true }) ∷ thread_on 0 0 0 1 (record { entry = true; ret = true; stack = true; top = false }) ∷ thread_on 0 4096 8191 8191 mapped ∷ []))
-    (Refused BadAddress ∷ Refused BadAddress ∷ Refused BadAddress ∷ Refused Unmapped ∷ Refused Unmapped ∷ Refused Unmapped ∷ Refused Unmapped ∷ Made (pid 2) ∷ []) (1 ∷ [])
+    (Err BadAddress ∷ Err BadAddress ∷ Err BadAddress ∷ Err Unmapped ∷ Err Unmapped ∷ Err Unmapped ∷ Err Unmapped ∷ Ok (Made (pid 2)) ∷ []) (1 ∷ [])
     -- the queue is empty
-    ∷ plain (dispatch 0 ∷ []) (Refused QueueEmpty ∷ []) []
+    ∷ plain (dispatch 0 ∷ []) (Err QueueEmpty ∷ []) []
     -- of two ZOMBIE children the lower, though it died later
-    ∷ plain (up (fork 0 true ∷ fork 0 true ∷ dispatch 1 ∷ dispatch 2 ∷ exit 2 5 ∷ exit 1 6 ∷ wait 0 NotWanted ∷ wait 0 NotWanted ∷ [])) (Reaped (pid 2) 6 ∷ Reaped (pid 3) 5 ∷ []) []
+    ∷ plain (up (fork 0 true ∷ fork 0 true ∷ dispatch 1 ∷ dispatch 2 ∷ exit 2 5 ∷ exit 1 6 ∷ wait 0 NotWanted ∷ wait 0 NotWanted ∷ [])) (Ok (Reaped (pid 2) 6) ∷ Ok (Reaped (pid 3) 5) ∷ []) []
     -- join: never the caller, and a killed one waits all the same
-    ∷ plain (up (ask 0 0 ∷ dispatch 1 ∷ join 1 (pid 2) NotWanted ∷ kill (pid 1) ∷ join 0 (pid 2) NotWanted ∷ [])) (Refused NoneSuch ∷ Done ∷ Blocked ∷ []) []
+    ∷ plain (up (ask 0 0 ∷ dispatch 1 ∷ join 1 (pid 2) NotWanted ∷ kill (pid 1) ∷ join 0 (pid 2) NotWanted ∷ [])) (Err NoneSuch ∷ Ok Done ∷ (Ok Blocked) ∷ []) []
     -- exit marks a RUNNING thread killed: with a live child it waits no more
-    ∷ plain (up (fork 0 true ∷ dispatch 1 ∷ thread_on 1 0 0 1 mapped ∷ dispatch 2 ∷ fork 2 true ∷ exit 1 0 ∷ wait 2 NotWanted ∷ [])) (Made (pid 4) ∷ Blocked ∷ Refused NoneSuch ∷ []) (3 ∷ [])
+    ∷ plain (up (fork 0 true ∷ dispatch 1 ∷ thread_on 1 0 0 1 mapped ∷ dispatch 2 ∷ fork 2 true ∷ exit 1 0 ∷ wait 2 NotWanted ∷ [])) (Ok (Made (pid 4)) ∷ Ok Blocked ∷ Err NoneSuch ∷ []) (3 ∷ [])
     -- names
     ∷ record {
       calls = spawn (replicate 17 65) 0 ∷ spawn (replicate 16 65) 0 ∷ spawn (31 ∷ 32 ∷ 126 ∷ 127 ∷ 0 ∷ 65 ∷ []) 0 ∷ [];
-      ends = Refused NameTooLong ∷ Made (pid 1) ∷ Made (pid 2) ∷ [];
+      ends = Err NameTooLong ∷ Ok (Made (pid 1)) ∷ Ok (Made (pid 2)) ∷ [];
       queue = 0 ∷ 1 ∷ [];
-      looks = record { room = 100; answer = Fits 80; part = bytes "pid: 1 state: RUNNABLE name: AAAAAAAAAAAAAAAA\npid: 2 state: RUNNABLE name: ? ~?\n" } ∷ [];
+      looks = record { room = 100; answer = Ok 80; part = bytes "pid: 1 state: RUNNABLE name: AAAAAAAAAAAAAAAA\npid: 2 state: RUNNABLE name: ? ~?\n" } ∷ [];
     }
-    ∷ record { calls = boot ∷ []; ends = Made (pid 1) ∷ []; queue = []; looks = record { room = 99; answer = Fits 39; part = bytes "pid: 1 state: ALLOCATED name: initname\n" } ∷ [] }
+    ∷ record { calls = boot ∷ []; ends = Ok (Made (pid 1)) ∷ []; queue = []; looks = record { room = 99; answer = Ok 39; part = bytes "pid: 1 state: ALLOCATED name: initname\n" } ∷ [] }
     -- the hart that is named; 8 is none; 3 before 4
-    ∷ plain (spawn [] 0 ∷ dispatch 8 ∷ dispatch 7 ∷ dispatch 7 ∷ yield 8 ∷ yield 0 ∷ yield 7 ∷ []) (Refused NoSuchHart ∷ Handed (slot 0) ∷ Refused HartBusy ∷ Refused NoSuchHart ∷ Refused HartIdle ∷ Done ∷ []) (0 ∷ [])
+    ∷ plain (spawn [] 0 ∷ dispatch 8 ∷ dispatch 7 ∷ dispatch 7 ∷ yield 8 ∷ yield 0 ∷ yield 7 ∷ []) (Err NoSuchHart ∷ Ok (Handed (slot 0)) ∷ Err HartBusy ∷ Err NoSuchHart ∷ Err HartIdle ∷ Ok Done ∷ []) (0 ∷ [])
     -- a thread's thread belongs to the leader: nobody is handed over when the first one ends
-    ∷ plain (up (ask 0 0 ∷ dispatch 1 ∷ thread_on 1 0 0 1 mapped ∷ fork 0 true ∷ wait 0 NotWanted ∷ thread_exit 1 0 ∷ [])) (Blocked ∷ Done ∷ []) (2 ∷ 3 ∷ [])
+    ∷ plain (up (ask 0 0 ∷ dispatch 1 ∷ thread_on 1 0 0 1 mapped ∷ fork 0 true ∷ wait 0 NotWanted ∷ thread_exit 1 0 ∷ [])) (Ok Blocked ∷ (Ok Done) ∷ []) (2 ∷ 3 ∷ [])
     -- exit wakes a sleeping thread; join names a thread only; exit by a thread
     ∷ plain (up (fork 0 true ∷ dispatch 1 ∷ thread_on 1 0 0 1 mapped ∷ dispatch 2 ∷ sleep 2 first_device ∷ join 1 (pid 2) NotWanted ∷ exit 1 0 ∷ dispatch 2 ∷ exit 2 0 ∷ thread_exit 2 0 ∷ []))
-    (Refused NoneSuch ∷ Blocked ∷ Handed (slot 2) ∷ Refused WrongWayOut ∷ Done ∷ []) (1 ∷ [])
+    (Err NoneSuch ∷ Ok Blocked ∷ Ok (Handed (slot 2)) ∷ Err WrongWayOut ∷ Ok Done ∷ []) (1 ∷ [])
     -- the ways out that are refused; groupless callers
     ∷ plain (up (spawn [] 0 ∷ dispatch 1 ∷ exit 1 0 ∷ thread_exit 1 0 ∷ fork 1 true ∷ grow 1 (pos 0) true ∷ join 1 (pid 1) NotWanted ∷ thread_on 1 0 0 1 mapped ∷ wait 1 NotWanted ∷ system_return 0 ∷ exit 0 0 ∷ thread_exit 0 0 ∷ system_return 1 ∷ []))
-    (Refused WrongWayOut ∷ Refused WrongWayOut ∷ Refused NoGroup ∷ Refused NoGroup ∷ Refused NoGroup ∷ Refused NoGroup ∷ Refused NoneSuch ∷ Refused WrongWayOut ∷ Refused WrongWayOut ∷ Refused WrongWayOut ∷ Done ∷ []) []
+    (Err WrongWayOut ∷ Err WrongWayOut ∷ Err NoGroup ∷ Err NoGroup ∷ Err NoGroup ∷ Err NoGroup ∷ Err NoneSuch ∷ Err WrongWayOut ∷ Err WrongWayOut ∷ Err WrongWayOut ∷ Ok Done ∷ []) []
     -- channels below the devices; boot and start out of turn
-    ∷ plain (start ∷ up (boot ∷ start ∷ sleep 0 (first_device - 1) ∷ wakeup (first_device - 1) ∷ sleep 0 0 ∷ [])) (Refused InitOutOfTurn ∷ Made (pid 1) ∷ Done ∷ Handed (slot 0) ∷ Refused InitOutOfTurn ∷ Refused InitOutOfTurn ∷ Refused NotADevice ∷ Refused NotADevice ∷ Refused NotADevice ∷ []) []
+    ∷ plain (start ∷ up (boot ∷ start ∷ sleep 0 (first_device - 1) ∷ wakeup (first_device - 1) ∷ sleep 0 0 ∷ [])) (Err InitOutOfTurn ∷ Ok (Made (pid 1)) ∷ Ok Done ∷ Ok (Handed (slot 0)) ∷ Err InitOutOfTurn ∷ Err InitOutOfTurn ∷ Err NotADevice ∷ Err NotADevice ∷ Err NotADevice ∷ []) []
     -- a join that blocks is woken by the thread's end, and asks again
-    ∷ plain (up (ask 0 0 ∷ dispatch 1 ∷ join 0 (pid 2) NotWanted ∷ thread_exit 1 0 ∷ dispatch 0 ∷ join 0 (pid 2) NotWanted ∷ join 0 (pid 2) NotWanted ∷ [])) (Blocked ∷ Done ∷ Handed (slot 0) ∷ Joined (pos 0) ∷ Refused NoneSuch ∷ []) []
+    ∷ plain (up (ask 0 0 ∷ dispatch 1 ∷ join 0 (pid 2) NotWanted ∷ thread_exit 1 0 ∷ dispatch 0 ∷ join 0 (pid 2) NotWanted ∷ join 0 (pid 2) NotWanted ∷ [])) (Ok Blocked ∷ (Ok Done) ∷ Ok (Handed (slot 0)) ∷ Ok (Joined (pos 0)) ∷ Err NoneSuch ∷ []) []
     -- init in slot 1, as a system thread has slot 0: a child that is handed over wakes it on its own channel, before the parent in slot 2
     ∷ plain (up_behind (fork 1 true ∷ wait 1 NotWanted ∷ dispatch 1 ∷ fork 1 true ∷ wait 1 NotWanted ∷ dispatch 1 ∷ fork 1 true ∷ exit 1 5 ∷ []))
-    (Made (pid 1) ∷ Made (pid 2) ∷ Done ∷ Handed (slot 0) ∷ Handed (slot 1) ∷ Made (pid 3) ∷ Blocked ∷ Handed (slot 2) ∷ Made (pid 4) ∷ Blocked ∷ Handed (slot 3) ∷ Made (pid 5) ∷ Done ∷ [])
+    (Ok (Made (pid 1)) ∷ Ok (Made (pid 2)) ∷ Ok Done ∷ Ok (Handed (slot 0)) ∷ Ok (Handed (slot 1)) ∷ Ok (Made (pid 3)) ∷ Ok Blocked ∷ Ok (Handed (slot 2)) ∷ Ok (Made (pid 4)) ∷ Ok Blocked ∷ Ok (Handed (slot 3)) ∷ Ok (Made (pid 5)) ∷ Ok Done ∷ [])
     (4 ∷ 1 ∷ 2 ∷ [])
     -- .. and it reaps the child, of which it is the parent now; it does not exit, and slot 0, once free, is a slot like any other
     ∷ plain (up_behind (fork 1 true ∷ dispatch 2 ∷ fork 2 true ∷ dispatch 3 ∷ wait 1 NotWanted ∷ exit 2 5 ∷ exit 3 6 ∷ dispatch 1 ∷ wait 1 Writable ∷ wait 1 Writable ∷ wait 1 Writable
     ∷ boot ∷ exit 1 0 ∷ exit 0 0 ∷ system_return 0 ∷ fork 1 true ∷ dispatch 0 ∷ exit 0 7 ∷ wait 1 Writable ∷ []))
-    (Blocked ∷ Done ∷ Done ∷ Handed (slot 1) ∷ Reaped (pid 3) 5 ∷ Reaped (pid 4) 6 ∷ Refused NoneSuch
-    ∷ Refused InitOutOfTurn ∷ Refused WrongWayOut ∷ Refused WrongWayOut ∷ Done ∷ Made (pid 5) ∷ Handed (slot 0) ∷ Done ∷ Reaped (pid 5) 7 ∷ []) []
+    (Ok Blocked ∷ (Ok Done) ∷ Ok Done ∷ Ok (Handed (slot 1)) ∷ Ok (Reaped (pid 3) 5) ∷ Ok (Reaped (pid 4) 6) ∷ Err NoneSuch
+    ∷ Err InitOutOfTurn ∷ Err WrongWayOut ∷ Err WrongWayOut ∷ Ok Done ∷ Ok (Made (pid 5)) ∷ Ok (Handed (slot 0)) ∷ Ok Done ∷ Ok (Reaped (pid 5) 7) ∷ []) []
     ∷ []
 
 pub more-runs-right : wrong 0 more_runs ≡ []

@@ -1,7 +1,7 @@
 -- What the Rust panics about cannot happen: its tests on the queue, parents and groups, of every sound table, so also half way through a call.
-use Rattle.std.specs.Prelude.{ℕ, ◌≤◌, ◌<◌, ◌≡◌, ◌⊎◌, List, ◌∷◌, length, eqb}
+use Rattle.std.specs.Prelude.{ℕ, ◌≤◌, ◌<◌, ◌≡◌, ◌⊎◌, List, ◌∷◌, length, eqb, Some, None}
 use Rattle.std.proofs.Math.Bool.{true, false}
-use Rattle.promises.specs.Types.{ProcState, UNUSED, ALLOCATED, RUNNABLE, RUNNING, SLEEPING, ZOMBIE, Of, Alone}
+use Rattle.promises.specs.Types.{ProcState, UNUSED, ALLOCATED, RUNNABLE, RUNNING, SLEEPING, ZOMBIE}
 use Rattle.rules.specs.Sizes.{slot_count}
 use Rattle.rules.specs.Model.{Table, at, is, is_slot, known, slot}
 use Rattle.rules.specs.Moves.{reparent}
@@ -23,9 +23,9 @@ pub record NoPanic (t : Table) : Type 0 where
   pub spaces : (s : ℕ) → is UNUSED (at t.core s) ≡ false → (at t.core s).kin.system ≡ false → is_in (at t.core s).kin.group ≡ true
   pub zombies : (s : ℕ) → is ZOMBIE (at t.core s) ≡ true → (at t.core s).kin.system ≡ false
   -- wait's caller, for a child that it found: whoever is a parent has a group
-  pub elders : (s q : ℕ) → (at t.core s).kin.parent ≡ Of (slot q) → is_in (at t.core q).kin.group ≡ true
+  pub elders : (s q : ℕ) → (at t.core s).kin.parent ≡ Some (slot q) → is_in (at t.core q).kin.group ≡ true
   -- the asserts: a slot that is taken or freed is not marked queued, and a system thread has no address space
   pub marked : (s : ℕ) → (at t.core s).meta.queued ≡ is RUNNABLE (at t.core s)
-  pub alone : (s : ℕ) → (at t.core s).kin.system ≡ true → (at t.core s).kin.group ≡ Alone
+  pub alone : (s : ℕ) → (at t.core s).kin.system ≡ true → (at t.core s).kin.group ≡ None
   pub parents : (h s : ℕ) → runs t h s → (at t.core s).kin.system ≡ false → is_slot s t.books.init ≡ false
       → let u = reap_threads (at t.core s).kin.group t in known (at (reparent u.books.init s u.core) s).kin.parent ≡ true

@@ -1,8 +1,7 @@
 -- Every slot, hart and group that is read is one that the table has: what the definitions say beyond is never asked.
-use Rattle.std.specs.Prelude.{ℕ, ◌≤◌, ◌<◌, ◌≡◌, Bool, get_or}
-use Rattle.std.proofs.Math.Option.{some}
+use Rattle.std.specs.Prelude.{ℕ, ◌≤◌, ◌<◌, ◌≡◌, Bool, get_or, Some}
 use Rattle.std.proofs.Math.ListN.{length}
-use Rattle.promises.specs.Types.{UNUSED, In, Process}
+use Rattle.promises.specs.Types.{UNUSED, Process}
 use Rattle.rules.specs.Sizes.{slot_count, group_count, hart_count}
 use Rattle.rules.specs.Model.{Table, at, hart_at, group_at, is}
 use Rattle.rules.specs.Moves.{lowest, new_group}
@@ -18,8 +17,8 @@ pub record Placed (t : Table) : Type 0 where
   pub init : InTable t.books.init
   pub parent : (s : ℕ) → InTable (at t.core s).kin.parent
   -- whoever a scan finds
-  pub found : (test : Process → Bool) (i : ℕ) → lowest test t.core.slots ≡ some i → i < slot_count
+  pub found : (test : Process → Bool) (i : ℕ) → lowest test t.core.slots ≡ Some i → i < slot_count
   -- a slot's group, which counts it, so that it can leave; and the new group of a slot to be had
   pub group : (s : ℕ) → InGroups (at t.core s).kin.group
-  pub counts : (s g : ℕ) → (at t.core s).kin.group ≡ In g → 1 ≤ (group_at t.books g).count
-  pub new : (s : ℕ) → lowest (is UNUSED) t.core.slots ≡ some s → new_group t.books < group_count
+  pub counts : (s g : ℕ) → (at t.core s).kin.group ≡ Some g → 1 ≤ (group_at t.books g).count
+  pub new : (s : ℕ) → lowest (is UNUSED) t.core.slots ≡ Some s → new_group t.books < group_count

@@ -1,6 +1,6 @@
 -- Document 01's number for each refusal, and what each answer tells.
-use Rattle.std.specs.Prelude.{ℕ, List, [], ◌∷◌, ℤ, pos}
-use Rattle.rules.specs.Types.{Refusal, NoSuchHart, HartIdle, HartBusy, QueueEmpty, TableFull, PidsSpent, NoGroup, BadAddress, Unmapped, NoneSuch, StatusUnwritable, InitOutOfTurn, WrongWayOut, NotADevice, NameTooLong, NoRoom, SizeOutOfLimits, NoMemory, Answer, Done, Made, Handed, Reaped, Joined, Blocked, Refused, Room, Fits, Short}
+use Rattle.std.specs.Prelude.{ℕ, List, [], ◌∷◌, ℤ, pos, Result, Ok, Err}
+use Rattle.rules.specs.Types.{Refusal, NoSuchHart, HartIdle, HartBusy, QueueEmpty, TableFull, PidsSpent, NoGroup, BadAddress, Unmapped, NoneSuch, StatusUnwritable, InitOutOfTurn, WrongWayOut, NotADevice, NameTooLong, NoRoom, SizeOutOfLimits, NoMemory, Answer, Done, Made, Handed, Reaped, Joined, Blocked}
 
 unfoldable pub number_of : Refusal → ℕ
 -- hart number 8 or more
@@ -42,14 +42,14 @@ number_of NoMemory = 18
 
 -- an answer as numbers: which case it is, then its values
 unfoldable pub values_of : Answer → List ℤ
-values_of Done = pos 0 ∷ []
-values_of (Made p) = pos 1 ∷ pos p.0 ∷ []
-values_of (Handed s) = pos 2 ∷ pos s.0 ∷ []
-values_of (Reaped p x) = pos 3 ∷ pos p.0 ∷ pos x ∷ []
-values_of (Joined x) = pos 4 ∷ x ∷ []
-values_of Blocked = pos 5 ∷ []
-values_of (Refused r) = pos 6 ∷ pos (number_of r) ∷ []
+values_of (Ok Done) = pos 0 ∷ []
+values_of (Ok (Made p)) = pos 1 ∷ pos p.0 ∷ []
+values_of (Ok (Handed s)) = pos 2 ∷ pos s.0 ∷ []
+values_of (Ok (Reaped p x)) = pos 3 ∷ pos p.0 ∷ pos x ∷ []
+values_of (Ok (Joined x)) = pos 4 ∷ x ∷ []
+values_of (Ok Blocked) = pos 5 ∷ []
+values_of (Err r) = pos 6 ∷ pos (number_of r) ∷ []
 
-unfoldable pub room_values : Room → List ℤ
-room_values (Fits n) = pos 0 ∷ pos n ∷ []
-room_values (Short r) = pos 6 ∷ pos (number_of r) ∷ []
+unfoldable pub room_values : Result ℕ Refusal → List ℤ
+room_values (Ok n) = pos 0 ∷ pos n ∷ []
+room_values (Err r) = pos 6 ∷ pos (number_of r) ∷ []

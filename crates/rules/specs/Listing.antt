@@ -1,8 +1,8 @@
 -- The listing: its text, whether it fits, and what a lent buffer holds afterwards.
-use Rattle.std.specs.Prelude.{ℕ, zero, suc, ◌+◌, ◌/◌, ◌%◌, Bool, true, false, cond, ◌&&◌, List, [], ◌∷◌, ◌++◌, map, length, drop, eqb, leb, ltb}
+use Rattle.std.specs.Prelude.{ℕ, zero, suc, ◌+◌, ◌/◌, ◌%◌, Bool, true, false, cond, ◌&&◌, List, [], ◌∷◌, ◌++◌, map, length, drop, eqb, leb, ltb, Result, Ok, Err}
 use Prim.Native.Char.{code}
 use Prim.Native.String as S
-use Rattle.rules.specs.Types.{ProcState, UNUSED, ALLOCATED, RUNNABLE, RUNNING, SLEEPING, ZOMBIE, Process, NoRoom, Room, Fits, Short}
+use Rattle.rules.specs.Types.{ProcState, UNUSED, ALLOCATED, RUNNABLE, RUNNING, SLEEPING, ZOMBIE, Process, NoRoom, Refusal}
 use Rattle.rules.specs.Model.{Table, is}
 
 unfoldable pub bytes : S.String → List ℕ
@@ -50,8 +50,8 @@ unfoldable pub fits_in : Table → ℕ → Bool
 fits_in t room = leb (length (listing t)) room
 
 -- the companion question
-unfoldable pub room_for : Table → ℕ → Room
-room_for t room = cond (fits_in t room) (Fits (length (listing t))) (Short NoRoom)
+unfoldable pub room_for : Table → ℕ → Result ℕ Refusal
+room_for t room = cond (fits_in t room) (Ok (length (listing t))) (Err NoRoom)
 
 -- the answer: the part of the buffer that was written
 unfoldable pub listed_part : Table → List ℕ → List ℕ

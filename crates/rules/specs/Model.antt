@@ -1,6 +1,6 @@
 -- One slot, one group, the table; and the one-slot changes that calls make.
-use Rattle.std.specs.Prelude.{ℕ, Bool, true, false, List, [], get_or, replicate, eqb}
-use Rattle.rules.specs.Types.{Pid, Slot, ProcState, UNUSED, ALLOCATED, RUNNABLE, RUNNING, SLEEPING, ZOMBIE, Parent, Nobody, Of, Member, Alone, In, ProcMeta, Kin, Start, Process, Group}
+use Rattle.std.specs.Prelude.{ℕ, Bool, true, false, List, [], get_or, replicate, eqb, Option, Some, None}
+use Rattle.rules.specs.Types.{Pid, Slot, ProcState, UNUSED, ALLOCATED, RUNNABLE, RUNNING, SLEEPING, ZOMBIE, ProcMeta, Kin, Start, Process, Group}
 use Rattle.rules.specs.Sizes.{slot_count, group_count, hart_count, trapframe, name_size}
 
 -- ---- short names
@@ -22,26 +22,26 @@ state_code ZOMBIE = 5
 abbrev pub is : ProcState → Process → Bool
 is a p = eqb (state_code a) (state_code p.meta.state)
 
-abbrev pub is_slot : ℕ → Parent → Bool
-is_slot s Nobody = false
-is_slot s (Of x) = eqb s x.0
+abbrev pub is_slot : ℕ → Option Slot → Bool
+is_slot s None = false
+is_slot s (Some x) = eqb s x.0
 
-abbrev pub known : Parent → Bool
-known Nobody = false
-known (Of x) = true
+abbrev pub known : Option Slot → Bool
+known None = false
+known (Some x) = true
 
 -- two slots of one group; a slot without group shares it with nobody
-abbrev pub same_group : Member → Member → Bool
-same_group Alone m = false
-same_group (In g) Alone = false
-same_group (In g) (In x) = eqb g x
+abbrev pub same_group : Option ℕ → Option ℕ → Bool
+same_group None m = false
+same_group (Some g) None = false
+same_group (Some g) (Some x) = eqb g x
 
 -- ---- one slot
 -- fresh or freed: UNUSED, all else zero or none, trapframe address TRAPFRAME
 unfoldable pub free : Process
 free = record {
   meta = record { state = UNUSED; channel = 0; killed = false; xstate = 0; pid = pid 0; queued = false };
-  kin = record { group = Alone; parent = Nobody; thread = false; system = false };
+  kin = record { group = None; parent = None; thread = false; system = false };
   start = record { trapframe = trapframe; sp = 0; entry = 0; top = 0; arg = 0; ret = 0; name = replicate name_size 0 };
 }
 
@@ -88,7 +88,7 @@ to_zombie x p = on_meta (as_zombie x) p
 abbrev pub to_killed : Process → Process
 to_killed p = on_meta as_killed p
 
-abbrev pub with_parent : Parent → Process → Process
+abbrev pub with_parent : Option Slot → Process → Process
 with_parent q p = record {
   meta = p.meta;
   kin = record { group = p.kin.group; parent = q; thread = p.kin.thread; system = p.kin.system };
@@ -101,11 +101,11 @@ pub record Core : Type 0 where
   -- the run queue: slot numbers, first in, first out
   pub queue : List ℕ
   -- what each hart runs
-  pub harts : List Parent
+  pub harts : List (Option Slot)
 
 pub record Books : Type 0 where
   pub groups : List Group
-  pub init : Parent
+  pub init : Option Slot
   -- the pid counter
   pub pids : ℕ
 
@@ -118,16 +118,16 @@ no_group = record { size = 0; count = 0 }
 
 unfoldable pub fresh : Table
 fresh = record {
-  core = record { slots = replicate slot_count free; queue = []; harts = replicate hart_count Nobody };
-  books = record { groups = replicate group_count no_group; init = Nobody; pids = 0 };
+  core = record { slots = replicate slot_count free; queue = []; harts = replicate hart_count None };
+  books = record { groups = replicate group_count no_group; init = None; pids = 0 };
 }
 
 -- ---- reading
 abbrev pub at : Core → ℕ → Process
 at c s = get_or c.slots s free
 
-abbrev pub hart_at : Core → ℕ → Parent
-hart_at c h = get_or c.harts h Nobody
+abbrev pub hart_at : Core → ℕ → Option Slot
+hart_at c h = get_or c.harts h None
 
 abbrev pub group_at : Books → ℕ → Group
 group_at b g = get_or b.groups g no_group

@@ -1,7 +1,6 @@
 -- What calls are made of: the scheduler's moves, the scans, the books.
-use Rattle.std.specs.Prelude.{ℕ, zero, suc, ◌+◌, ◌-◌, Bool, true, false, cond, ◌&&◌, List, [], ◌∷◌, ◌++◌, set, eqb, leb}
-use Rattle.std.proofs.Math.Option.{Option, none, some}
-use Rattle.rules.specs.Types.{SLEEPING, Parent, Nobody, Of, Member, Alone, In, Process, Group}
+use Rattle.std.specs.Prelude.{ℕ, zero, suc, ◌+◌, ◌-◌, Bool, true, false, cond, ◌&&◌, List, [], ◌∷◌, ◌++◌, set, eqb, leb, Option, Some, None}
+use Rattle.rules.specs.Types.{SLEEPING, Process, Group, Slot}
 use Rattle.rules.specs.Sizes.{slot_count, own_channel}
 use Rattle.rules.specs.Model.{Core, Books, Table, at, group_at, no_group, free, is, is_slot, slot, to_runnable, to_running, to_sleeping, to_zombie, to_killed, with_parent}
 
@@ -16,11 +15,11 @@ publish s c = let d = change to_runnable s c in record { slots = d.slots; queue 
 -- the head s, before rest, leaves the queue and runs on hart h
 unfoldable pub hand : ℕ → ℕ → List ℕ → Core → Core
 hand h s rest c =
-    let d = change to_running s c in record { slots = d.slots; queue = rest; harts = set d.harts h (Of (slot s)) }
+    let d = change to_running s c in record { slots = d.slots; queue = rest; harts = set d.harts h (Some (slot s)) }
 
 -- hart h runs nothing
 unfoldable pub idle : ℕ → Core → Core
-idle h c = record { slots = c.slots; queue = c.queue; harts = set c.harts h Nobody }
+idle h c = record { slots = c.slots; queue = c.queue; harts = set c.harts h None }
 
 -- the caller s on hart h stops RUNNING, in one of three ways
 unfoldable pub yield_on : ℕ → ℕ → Core → Core
@@ -39,8 +38,8 @@ sweep f zero c = c
 sweep f (suc n) c = f n (sweep f n c)
 
 unfoldable pub first_from : {A : Type 0} → (A → Bool) → List A → ℕ → Option ℕ
-first_from test [] i = none
-first_from test (x ∷ xs) i = elim (test x) [ true ↦ some i | false ↦ first_from test xs (suc i) ]
+first_from test [] i = None
+first_from test (x ∷ xs) i = elim (test x) [ true ↦ Some i | false ↦ first_from test xs (suc i) ]
 
 -- the lowest index whose element passes
 unfoldable pub lowest : {A : Type 0} → (A → Bool) → List A → Option ℕ
@@ -61,19 +60,19 @@ unfoldable pub wake : ℕ → Core → Core
 wake ch c = sweep (wake_one ch) slot_count c
 
 -- the slot's own channel is woken, where there is a slot
-unfoldable pub wake_of : Parent → Core → Core
-wake_of Nobody c = c
-wake_of (Of s) c = wake (own_channel s.0) c
+unfoldable pub wake_of : Option Slot → Core → Core
+wake_of None c = c
+wake_of (Some s) c = wake (own_channel s.0) c
 
 -- killed, and published if SLEEPING
 unfoldable pub slay : ℕ → Core → Core
 slay s c = publish_if (is SLEEPING (at c s)) s (change to_killed s c)
 
 -- a slot whose parent is s gets init, and init's channel is woken
-unfoldable pub hand_over : Parent → ℕ → ℕ → Core → Core
+unfoldable pub hand_over : Option Slot → ℕ → ℕ → Core → Core
 hand_over init s i c = cond (is_slot s (at c i).kin.parent) (wake_of init (change (with_parent init) i c)) c
 
-unfoldable pub reparent : Parent → ℕ → Core → Core
+unfoldable pub reparent : Option Slot → ℕ → Core → Core
 reparent init s c = sweep (hand_over init s) slot_count c
 
 -- ---- the books
@@ -84,8 +83,8 @@ abbrev pub empty_group : Group → Bool
 empty_group x = eqb x.count 0
 
 abbrev pub or_zero : Option ℕ → ℕ
-or_zero none = 0
-or_zero (some n) = n
+or_zero None = 0
+or_zero (Some n) = n
 
 -- the lowest index with count 0; there is one whenever a slot is UNUSED
 unfoldable pub new_group : Books → ℕ
@@ -101,15 +100,15 @@ join_group g b = set_group g (record { size = (group_at b g).size; count = (grou
 abbrev pub less : Group → Group
 less x = cond (leb x.count 1) no_group (record { size = x.size; count = x.count - 1 })
 
-unfoldable pub leave_group : Member → Books → Books
-leave_group Alone b = b
-leave_group (In g) b = set_group g (less (group_at b g)) b
+unfoldable pub leave_group : Option ℕ → Books → Books
+leave_group None b = b
+leave_group (Some g) b = set_group g (less (group_at b g)) b
 
 unfoldable pub resize : ℕ → ℕ → Books → Books
 resize g n b = set_group g (record { size = n; count = (group_at b g).count }) b
 
 unfoldable pub set_init : ℕ → Books → Books
-set_init s b = record { groups = b.groups; init = Of (slot s); pids = b.pids }
+set_init s b = record { groups = b.groups; init = Some (slot s); pids = b.pids }
 
 unfoldable pub spend : Books → Books
 spend b = record { groups = b.groups; init = b.init; pids = b.pids + 1 }

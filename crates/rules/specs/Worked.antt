@@ -1,6 +1,6 @@
 -- How a worked run is written down, and when the definitions agree with it.
-use Rattle.std.specs.Prelude.{ℕ, zero, suc, ◌-◌, Bool, true, false, ◌&&◌, cond, List, [], ◌∷◌, ◌++◌, length, drop, replicate, eqb, ℤ, pos, negsuc}
-use Rattle.rules.specs.Types.{Mapped, Answer, Room}
+use Rattle.std.specs.Prelude.{ℕ, zero, suc, ◌-◌, Bool, true, false, ◌&&◌, cond, List, [], ◌∷◌, ◌++◌, length, drop, replicate, eqb, ℤ, pos, negsuc, Result}
+use Rattle.rules.specs.Types.{Mapped, Answer, Refusal}
 use Rattle.rules.specs.Answers.{values_of, room_values}
 use Rattle.rules.specs.Model.{Table, fresh}
 use Rattle.rules.specs.Listing.{room_for, listed_part}
@@ -9,7 +9,7 @@ use Rattle.rules.specs.Runs.{Call, boot, start, thread, dispatch, run}
 -- the listing into a buffer of that room: the companion's answer, and the part written
 pub record Look : Type 0 where
   pub room : ℕ
-  pub answer : Room
+  pub answer : Result ℕ Refusal
   pub part : List ℕ
 
 -- calls from a fresh table, the last of their answers, the queue after them, and looks at the listing then

@@ -2,14 +2,14 @@
 #![tactic(auto)]
 
 // A process or thread number. Never given twice.
-#[derive(Clone, Copy)]
+#[derive(Clone, Copy, PartialEq, Eq)]
 pub struct Pid(pub u64);
 
 // A place in the table.
-#[derive(Clone, Copy)]
+#[derive(Clone, Copy, PartialEq, Eq)]
 pub struct Slot(pub usize);
 
-#[derive(Clone, Copy)]
+#[derive(Clone, Copy, PartialEq, Eq)]
 pub enum ProcState {
     UNUSED,
     ALLOCATED,
@@ -17,20 +17,6 @@ pub enum ProcState {
     RUNNING,
     SLEEPING,
     ZOMBIE,
-}
-
-// None or a slot: a parent, and likewise what a hart runs and where init is.
-#[derive(Clone, Copy)]
-pub enum Parent {
-    Nobody,
-    Of(Slot),
-}
-
-// None or a group.
-#[derive(Clone, Copy)]
-pub enum Member {
-    Alone,
-    In(usize),
 }
 
 #[derive(Clone, Copy)]
@@ -46,8 +32,8 @@ pub struct ProcMeta {
 // Of the Rust's ProcData: to whom the slot belongs.
 #[derive(Clone, Copy)]
 pub struct Kin {
-    pub group: Member,
-    pub parent: Parent,
+    pub group: Option<usize>,
+    pub parent: Option<Slot>,
     pub thread: bool,
     pub system: bool,
 }
@@ -127,20 +113,16 @@ pub enum Refusal {
     NoMemory,
 }
 
+// What a granted call tells.
 #[derive(Clone, Copy)]
-pub enum Answer {
+pub enum Grant {
     Done,
     Made(Pid),
     Handed(Slot),
     Reaped(Pid, u64),
     Joined(i32),
     Blocked,
-    Refused(Refusal),
 }
 
-// The answer to whether the listing fits a room: the text's length, or why not.
-#[derive(Clone, Copy)]
-pub enum Room {
-    Fits(usize),
-    Short(Refusal),
-}
+// What every call answers.
+pub type Answer = Result<Grant, Refusal>;

@@ -1,15 +1,15 @@
 -- A run, call by call.
+use Rattle.std.specs.Prelude.{Some, None, Option}
 use Prim.Native.Nat.{ℕ, zero, suc, ◌+◌, ◌*◌, ◌-◌, ◌/◌, ◌≤◌, ◌<◌}
 use native.Mathlib.Omega.{arith}
 use mathlib.Core.Path.{◌≡◌, refl, sym, ap, ◌∙◌, subst}
 use mathlib.Core.Bool.{Bool, true, false, cond}
-use mathlib.Core.Option.{Option, none, some}
 use mathlib.Core.List.{List, [], ◌∷◌, ◌++◌}
 use lib.ListN.{length, get_or, take, drop, length-append, length-drop}
 use lib.Seq.{drop-drop}
 use lib.Dec.{ltb}
 use borrow.Author.Tests.{ltb-false}
-use Rattle.rules.specs.declared.Answer.{Answer}
+use Rattle.rules.specs.Types.{Answer}
 use Rattle.rules.specs.Model.{Table}
 use Rattle.rules.specs.Runs as rules
 use Rattle.promises.specs.Order.Sound.{Sound}
@@ -20,10 +20,8 @@ use Rattle.steps.specs.declared.Call.{Call}
 use Rattle.steps.specs.ByValue.{call_of}
 use Rattle.answers.specs.Words.{answer_words, coded, codes}
 use Rattle.answers.proofs.AnswerLaws.{coded-length, codes-length, codes-more}
-use Rattle.codes.specs.Codes.{call_words, call_numbered, call_in, as_option}
+use Rattle.codes.specs.Codes.{call_words, call_numbered, call_in}
 use Rattle.runs.specs.Ran.{followed, calls_in, Ran}
-use Rattle.codes.specs.declared.Read.{Read}
-use Rattle.codes.specs.declared.Read.TheVariants.{No, Is}
 
 -- ---- one call more
 run-table : (t : Table) (cs : List rules.Call) (c : rules.Call) → (rules.run t (cs ++ (c ∷ []))).table ≡ (rules.step (rules.run t cs).table c).table
@@ -48,7 +46,7 @@ module _ (text : List ℕ) where
   rest n l = let e : call_words + n * call_words ≡ suc n * call_words = omega arith in drop-drop (n * call_words) call_words l ∙ ap (λ (k : ℕ). drop k l) e
 
   -- n of them, and then c
-  one_more : (n : ℕ) (l : List ℕ) (c : Call) → n ≡ length (calls_in n text l) → call_in (drop (n * call_words) l) ≡ some c
+  one_more : (n : ℕ) (l : List ℕ) (c : Call) → n ≡ length (calls_in n text l) → call_in (drop (n * call_words) l) ≡ Some c
       → calls_in (suc n) text l ≡ calls_in n text l ++ (call_of text c ∷ [])
   unfolding calls_in
   one_more zero l c h e = ap (λ (o : Option Call). followed text o []) e
@@ -57,11 +55,11 @@ module _ (text : List ℕ) where
       go : (o : Option Call) → suc n ≡ length (followed text o (calls_in n text (drop call_words l)))
           → (n ≡ length (calls_in n text (drop call_words l)) → calls_in (suc n) text (drop call_words l) ≡ calls_in n text (drop call_words l) ++ (call_of text c ∷ []))
           → followed text o (calls_in (suc n) text (drop call_words l)) ≡ followed text o (calls_in n text (drop call_words l)) ++ (call_of text c ∷ [])
-      go none h more = absurd (omega arith)
-      go (some x) h more = ap (λ (k : List rules.Call). call_of text x ∷ k) (more (omega arith))
+      go None h more = absurd (omega arith)
+      go (Some x) h more = ap (λ (k : List rules.Call). call_of text x ∷ k) (more (omega arith))
 
   -- n of them, and then none
-  no_more : (n m : ℕ) (l : List ℕ) → n ≤ m → n ≡ length (calls_in n text l) → call_in (drop (n * call_words) l) ≡ none → calls_in m text l ≡ calls_in n text l
+  no_more : (n m : ℕ) (l : List ℕ) → n ≤ m → n ≡ length (calls_in n text l) → call_in (drop (n * call_words) l) ≡ None → calls_in m text l ≡ calls_in n text l
   unfolding calls_in
   no_more zero zero l b h e = refl
   no_more zero (suc m) l b h e = ap (λ (o : Option Call). followed text o (calls_in m text (drop call_words l))) e
@@ -71,14 +69,14 @@ module _ (text : List ℕ) where
       go : (o : Option Call) → suc n ≡ length (followed text o (calls_in n text (drop call_words l)))
           → (n ≡ length (calls_in n text (drop call_words l)) → calls_in m text (drop call_words l) ≡ calls_in n text (drop call_words l))
           → followed text o (calls_in m text (drop call_words l)) ≡ followed text o (calls_in n text (drop call_words l))
-      go none h same = absurd (omega arith)
-      go (some x) h same = ap (λ (k : List rules.Call). call_of text x ∷ k) (same (omega arith))
+      go None h same = absurd (omega arith)
+      go (Some x) h same = ap (λ (k : List rules.Call). call_of text x ∷ k) (same (omega arith))
 
-call_long : (l : List ℕ) (c : Call) → call_in l ≡ some c → call_words ≤ length l
+call_long : (l : List ℕ) (c : Call) → call_in l ≡ Some c → call_words ≤ length l
 unfolding call_in
 call_long l c e = go (ltb (length l) call_words) refl e
   where
-    go : (b : Bool) → ltb (length l) call_words ≡ b → cond b none (call_numbered (get_or l 0 0) (λ i. get_or l i 0)) ≡ some c → call_words ≤ length l
+    go : (b : Bool) → ltb (length l) call_words ≡ b → cond b None (call_numbered (get_or l 0 0) (λ i. get_or l i 0)) ≡ Some c → call_words ≤ length l
     go true f e = absurd (let z : ◌≡◌ {A = ℕ} 0 1 = cc in omega arith)
     go false f e = ltb-false (length l) call_words f
 
@@ -111,7 +109,7 @@ module _ (text l b₀ : List ℕ) (t₀ : Table) (most : ℕ) where
     here : drop at l ≡ drop (n * call_words) l
     here = ap (λ (k : ℕ). drop k l) m.place
 
-    module _ (c : Call) (e : call_in (drop at l) ≡ some c) where
+    module _ (c : Call) (e : call_in (drop at l) ≡ Some c) where
       pub call-in : at + call_words ≤ length l
       call-in = omega (arith, call_long (drop at l) c e, length-drop at l, m.within)
 
@@ -139,22 +137,22 @@ module _ (text l b₀ : List ℕ) (t₀ : Table) (most : ℕ) where
     pub ended : {k : ℕ} → most ≡ k → calls_in most text l ≡ calls_in n text l → Ran (calls_in k text l) t₀ b₀ n t b
     ended f e = rw (← f, e) (record { count = m.count; table = m.table; answers = m.answers.buffer; sound = m.sound })
 
-    pub none_left : call_in (drop at l) ≡ none → calls_in most text l ≡ calls_in n text l
+    pub none_left : call_in (drop at l) ≡ None → calls_in most text l ≡ calls_in n text l
     none_left e = no_more text n most l m.left m.count (ap call_in (sym here) ∙ e)
 
     pub all_done : most ≤ n → calls_in most text l ≡ calls_in n text l
     all_done h = let e : most ≡ n = omega (arith, m.left) in ap (λ (k : ℕ). calls_in k text l) e
 
 -- ---- what the code saw
-module _ (l : List ℕ) (at : ℕ) (r : Read) (f : as_option r ≡ call_in (take (length l - at) (drop at l))) where
-  seen : call_in (drop at l) ≡ as_option r
+module _ (l : List ℕ) (at : ℕ) (r : Option Call) (f : r ≡ call_in (take (length l - at) (drop at l))) where
+  seen : call_in (drop at l) ≡ r
   seen = sym (f ∙ ap call_in (part-from l at (length l) refl))
 
-  pub first-none : r ≡ No → call_in (drop at l) ≡ none
-  first-none e = seen ∙ ap as_option e
+  pub first-none : r ≡ None → call_in (drop at l) ≡ None
+  first-none e = seen ∙ e
 
-  pub first-call : {c : Call} → r ≡ Is c → call_in (drop at l) ≡ some c
-  first-call e = seen ∙ ap as_option e
+  pub first-call : {c : Call} → r ≡ Some c → call_in (drop at l) ≡ Some c
+  first-call e = seen ∙ e
 
 pub most-fits : (b : List ℕ) {most : ℕ} → most ≤ length b / answer_words → most * answer_words ≤ length b
 most-fits b h = omega arith

@@ -1,6 +1,5 @@
 -- A run of the calls that a list of words holds.
-use Rattle.std.specs.Prelude.{ℕ, zero, suc, ◌/◌, ◌≡◌, List, [], ◌∷◌, length, drop}
-use Rattle.std.proofs.Math.Option.{Option, none, some}
+use Rattle.std.specs.Prelude.{ℕ, zero, suc, ◌/◌, ◌≡◌, List, [], ◌∷◌, length, drop, Option, Some, None}
 use Rattle.rules.specs.Model.{Table}
 use Rattle.rules.specs.Runs as rules
 use Rattle.promises.specs.Order.Sound.{Sound}
@@ -12,8 +11,8 @@ use Rattle.codes.specs.Codes.{call_words, call_in}
 
 -- n calls at most, up to the first words that are none
 abbrev pub followed : List ℕ → Option Call → List rules.Call → List rules.Call
-followed text none rest = []
-followed text (some c) rest = call_of text c ∷ rest
+followed text None rest = []
+followed text (Some c) rest = call_of text c ∷ rest
 
 unfoldable pub calls_in : ℕ → List ℕ → List ℕ → List rules.Call
 calls_in zero text l = []

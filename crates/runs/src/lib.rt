@@ -5,7 +5,6 @@ ghost use Rattle.promises.specs.Order.Sound.{Sound};
 ghost use Rattle.words.specs.Reading.{table_of};
 ghost use Rattle.runs.specs.Ran.{calls_within, Ran};
 
-use codes::Read;
 use words::Table;
 
 // Makes the calls, up to the first words that are none, and says how many they were.
@@ -24,7 +23,7 @@ pub fn run(
     let mut at = 0;
     let mut to = 0;
     while n < most {
-        let Read::Is(c) = codes::first(&calls[at..]) else {
+        let Some(c) = codes::first(&calls[at..]) else {
             return n;
         };
         let a = steps::step(t, text, c);

@@ -1,4 +1,5 @@
 -- The rules' tests, case by case, as the code goes through them.
+use Rattle.std.specs.Prelude.{Option, Some, None}
 use Prim.Native.Nat.{ℕ}
 use mathlib.Core.Path.{◌≡◌, sym, ap, ◌∙◌}
 use mathlib.Core.Bool.{Bool, true, false, not}
@@ -7,9 +8,6 @@ use borrow.Author.Tests.{eq-eqb, ne_eqb}
 use Rattle.rules.specs.declared.Pid.{Pid}
 use Rattle.rules.specs.declared.Slot.{Slot}
 use Rattle.rules.specs.declared.ProcState.TheVariants.{UNUSED, ZOMBIE}
-use Rattle.rules.specs.declared.Parent.TheVariants.{Nobody, Of}
-use Rattle.rules.specs.declared.Member.{Member}
-use Rattle.rules.specs.declared.Member.TheVariants.{Alone, In}
 use Rattle.rules.specs.declared.Process.{Process}
 use Rattle.rules.specs.Model.{is}
 use Rattle.rules.specs.Calls.{has_pid, child_of, zombie_child_of, thread_of, thread_named}
@@ -24,24 +22,24 @@ module _ (n : Pid) (p : Process) {q : Pid} (f : q ≡ p.meta.pid) where
   unfolding has_pid
   pid-same e g = ap not g ∙ sym (and_yes (not (is UNUSED p)) (ap (λ (k : Pid). eqb k.0 n.0) (sym f) ∙ eq-eqb q.0 n.0 e))
 
-  pub named_other : (g : Member) → (q.0 ≡ n.0 → ⊥) → false ≡ thread_named n g p
+  pub named_other : (g : Option ℕ) → (q.0 ≡ n.0 → ⊥) → false ≡ thread_named n g p
   unfolding thread_named
   named_other g d = sym (and_no (thread_of g p) (ap (λ (k : Pid). eqb k.0 n.0) (sym f) ∙ ne_eqb q.0 n.0 d))
 
-  pub named-thread : (g : Member) {b : Bool} → q.0 ≡ n.0 → b ≡ thread_of g p → b ≡ thread_named n g p
+  pub named-thread : (g : Option ℕ) {b : Bool} → q.0 ≡ n.0 → b ≡ thread_of g p → b ≡ thread_named n g p
   unfolding thread_named
   named-thread g e h = h ∙ sym (and_yes (thread_of g p) (ap (λ (k : Pid). eqb k.0 n.0) (sym f) ∙ eq-eqb q.0 n.0 e))
 
 module _ (s : ℕ) (p : Process) where
-  pub child-none : p.kin.parent ≡ Nobody → false ≡ child_of s p
+  pub child-none : p.kin.parent ≡ None → false ≡ child_of s p
   unfolding child_of
   child-none e = rw e
 
-  pub child-other : {x : Slot} → (s ≡ x.0 → ⊥) → p.kin.parent ≡ Of x → false ≡ child_of s p
+  pub child-other : {x : Slot} → (s ≡ x.0 → ⊥) → p.kin.parent ≡ Some x → false ≡ child_of s p
   unfolding child_of
   child-other {x} n e = rw (e, ne_eqb s x.0 n)
 
-  pub child-this : {x : Slot} {b : Bool} → s ≡ x.0 → p.kin.parent ≡ Of x → b ≡ not p.kin.thread → b ≡ child_of s p
+  pub child-this : {x : Slot} {b : Bool} → s ≡ x.0 → p.kin.parent ≡ Some x → b ≡ not p.kin.thread → b ≡ child_of s p
   unfolding child_of
   child-this {x} n e f = f ∙ rw (e, eq-eqb s x.0 n)
 
@@ -54,18 +52,18 @@ module _ (s : ℕ) (p : Process) where
   live-child e = rw e
 
 module _ (p : Process) where
-  pub no-thread : (m : Member) → p.kin.thread ≡ false → false ≡ thread_of m p
+  pub no-thread : (m : Option ℕ) → p.kin.thread ≡ false → false ≡ thread_of m p
   unfolding thread_of
   no-thread m e = rw e
 
-  pub thread-asked-none : (m : Member) → p.kin.thread ≡ true → m ≡ Alone → false ≡ thread_of m p
+  pub thread-asked-none : (m : Option ℕ) → p.kin.thread ≡ true → m ≡ None → false ≡ thread_of m p
   unfolding thread_of
   thread-asked-none m e f = rw (e, f)
 
-  pub thread-in-none : (m : Member) {g : ℕ} → p.kin.thread ≡ true → m ≡ In g → p.kin.group ≡ Alone → false ≡ thread_of m p
+  pub thread-in-none : (m : Option ℕ) {g : ℕ} → p.kin.thread ≡ true → m ≡ Some g → p.kin.group ≡ None → false ≡ thread_of m p
   unfolding thread_of
   thread-in-none m e f k = rw (e, f, k)
 
-  pub thread-in : (m : Member) {g x : ℕ} {b : Bool} → p.kin.thread ≡ true → m ≡ In g → p.kin.group ≡ In x → b ≡ eqb g x → b ≡ thread_of m p
+  pub thread-in : (m : Option ℕ) {g x : ℕ} {b : Bool} → p.kin.thread ≡ true → m ≡ Some g → p.kin.group ≡ Some x → b ≡ eqb g x → b ≡ thread_of m p
   unfolding thread_of
   thread-in m e f k h = h ∙ rw (e, f, k)

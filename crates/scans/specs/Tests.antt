@@ -1,6 +1,5 @@
 -- The code's tests as the rules' tests, and what a scan finds as the rules have it.
-use Rattle.std.specs.Prelude.{ℕ, ◌<◌, Bool}
-use Rattle.std.proofs.Math.Option.{Option, none, some}
+use Rattle.std.specs.Prelude.{ℕ, ◌<◌, Bool, Option, Some, None}
 use Rattle.rules.specs.declared.ProcState.TheVariants.{UNUSED}
 use Rattle.rules.specs.declared.Process.{Process}
 use Rattle.rules.specs.Sizes.{slot_count}
@@ -8,8 +7,6 @@ use Rattle.rules.specs.Model.{is}
 use Rattle.rules.specs.Calls.{has_pid, child_of, zombie_child_of, thread_of, thread_named}
 use Rattle.scans.specs.declared.Test.{Test}
 use Rattle.scans.specs.declared.Test.TheVariants.{Unused, HasPid, ChildOf, ZombieChildOf, ThreadOf, ThreadNamed}
-use Rattle.scans.specs.declared.Found.{Found}
-use Rattle.scans.specs.declared.Found.TheVariants.{At, Nothing}
 
 unfoldable pub passes : Test → Process → Bool
 passes Unused p = is UNUSED p
@@ -19,10 +16,6 @@ passes (ZombieChildOf s) p = zombie_child_of s p
 passes (ThreadOf m) p = thread_of m p
 passes (ThreadNamed n m) p = thread_named n m p
 
-abbrev pub as_option : Found → Option ℕ
-as_option (At i) = some i
-as_option Nothing = none
-
-abbrev pub InRange : Found → Type 0
-InRange (At i) = i < slot_count
-InRange Nothing = Unit {0}
+abbrev pub InRange : Option ℕ → Type 0
+InRange (Some i) = i < slot_count
+InRange None = Unit {0}

@@ -2,31 +2,26 @@
 #![tactic(auto)]
 
 ghost use Rattle.std.specs.Prelude.{◌≡◌, ◌<◌};
+ghost use Rattle.rules.specs.declared.ProcState.TheVariants.{UNUSED};
 ghost use Rattle.rules.specs.Sizes.{slot_count, group_count};
 ghost use Rattle.rules.specs.Model.{at, is};
 ghost use Rattle.rules.specs.Moves.{lowest, new_group};
 ghost use Rattle.rules.specs.Calls.{has_pid, child_of, zombie_child_of, thread_of, thread_named};
 ghost use Rattle.words.specs.Reading.{table_of};
-ghost use Rattle.scans.specs.Tests.{passes, as_option, InRange};
+ghost use Rattle.scans.specs.Tests.{passes, InRange};
 
-use rules::{Member, Parent, Pid, ProcState};
+use rules::{Pid, ProcState};
 use words::{Table, book, slot, word};
 
 // A test on a slot, as the rules have it.
 #[derive(Clone, Copy)]
-pub enum Test {
+enum Test {
     Unused,
     HasPid(Pid),
     ChildOf(usize),
     ZombieChildOf(usize),
-    ThreadOf(Member),
-    ThreadNamed(Pid, Member),
-}
-
-#[derive(Clone, Copy)]
-pub enum Found {
-    At(usize),
-    Nothing,
+    ThreadOf(Option<usize>),
+    ThreadNamed(Pid, Option<usize>),
 }
 
 pub fn is(t: &[u64; Table::WORDS], i: usize, a: ProcState) -> bool
@@ -49,13 +44,13 @@ fn has_pid(t: &[u64; Table::WORDS], p: Pid, i: usize) -> bool
     !is(t, i, ProcState::UNUSED)
 }
 
-fn child_of(t: &[u64; Table::WORDS], s: usize, i: usize) -> bool
+fn is_child_of(t: &[u64; Table::WORDS], s: usize, i: usize) -> bool
     requires { i < slot_count }
     ensures { result ≡ child_of s (at (table_of t.now).core i) }
 {
     let k = slot::kin_at(t, i);
     let parent = k.parent;
-    let Parent::Of(p) = parent else {
+    let Some(p) = parent else {
         return false;
     };
     if s != p.0 {
@@ -64,17 +59,17 @@ fn child_of(t: &[u64; Table::WORDS], s: usize, i: usize) -> bool
     !k.thread
 }
 
-fn zombie_child_of(t: &[u64; Table::WORDS], s: usize, i: usize) -> bool
+fn is_zombie_child_of(t: &[u64; Table::WORDS], s: usize, i: usize) -> bool
     requires { i < slot_count }
     ensures { result ≡ zombie_child_of s (at (table_of t.now).core i) }
 {
     if is(t, i, ProcState::ZOMBIE) {
-        return child_of(t, s, i);
+        return is_child_of(t, s, i);
     }
     false
 }
 
-fn thread_of(t: &[u64; Table::WORDS], m: Member, i: usize) -> bool
+fn is_thread_of(t: &[u64; Table::WORDS], m: Option<usize>, i: usize) -> bool
     requires { i < slot_count }
     ensures { result ≡ thread_of m (at (table_of t.now).core i) }
 {
@@ -83,16 +78,16 @@ fn thread_of(t: &[u64; Table::WORDS], m: Member, i: usize) -> bool
         return false;
     }
     let group = k.group;
-    let Member::In(g) = m else {
+    let Some(g) = m else {
         return false;
     };
-    let Member::In(own) = group else {
+    let Some(own) = group else {
         return false;
     };
     g == own
 }
 
-fn thread_named(t: &[u64; Table::WORDS], p: Pid, m: Member, i: usize) -> bool
+fn is_thread_named(t: &[u64; Table::WORDS], p: Pid, m: Option<usize>, i: usize) -> bool
     requires { i < slot_count }
     ensures { result ≡ thread_named p m (at (table_of t.now).core i) }
 {
@@ -100,7 +95,7 @@ fn thread_named(t: &[u64; Table::WORDS], p: Pid, m: Member, i: usize) -> bool
     if pid.0 != p.0 {
         return false;
     }
-    thread_of(t, m, i)
+    is_thread_of(t, m, i)
 }
 
 fn pass(t: &[u64; Table::WORDS], test: Test, i: usize) -> bool
@@ -110,22 +105,58 @@ fn pass(t: &[u64; Table::WORDS], test: Test, i: usize) -> bool
     match test {
         Test::Unused => is(t, i, ProcState::UNUSED),
         Test::HasPid(p) => has_pid(t, p, i),
-        Test::ChildOf(s) => child_of(t, s, i),
-        Test::ZombieChildOf(s) => zombie_child_of(t, s, i),
-        Test::ThreadOf(m) => thread_of(t, m, i),
-        Test::ThreadNamed(p, m) => thread_named(t, p, m, i),
+        Test::ChildOf(s) => is_child_of(t, s, i),
+        Test::ZombieChildOf(s) => is_zombie_child_of(t, s, i),
+        Test::ThreadOf(m) => is_thread_of(t, m, i),
+        Test::ThreadNamed(p, m) => is_thread_named(t, p, m, i),
     }
 }
 
-pub fn find(t: &[u64; Table::WORDS], test: Test) -> Found
-    ensures { (as_option result ≡ lowest (passes test) (table_of t.now).core.slots) × InRange result }
+fn find(t: &[u64; Table::WORDS], test: Test) -> Option<usize>
+    ensures { (result ≡ lowest (passes test) (table_of t.now).core.slots) × InRange result }
 {
     for i in 0..Table::SLOTS {
         if pass(t, test, i) {
-            return Found::At(i);
+            return Some(i);
         }
     }
-    Found::Nothing
+    None
+}
+
+pub fn unused(t: &[u64; Table::WORDS]) -> Option<usize>
+    ensures { (result ≡ lowest (is UNUSED) (table_of t.now).core.slots) × InRange result }
+{
+    find(t, Test::Unused)
+}
+
+pub fn with_pid(t: &[u64; Table::WORDS], p: Pid) -> Option<usize>
+    ensures { (result ≡ lowest (has_pid p) (table_of t.now).core.slots) × InRange result }
+{
+    find(t, Test::HasPid(p))
+}
+
+pub fn child_of(t: &[u64; Table::WORDS], s: usize) -> Option<usize>
+    ensures { (result ≡ lowest (child_of s) (table_of t.now).core.slots) × InRange result }
+{
+    find(t, Test::ChildOf(s))
+}
+
+pub fn zombie_child_of(t: &[u64; Table::WORDS], s: usize) -> Option<usize>
+    ensures { (result ≡ lowest (zombie_child_of s) (table_of t.now).core.slots) × InRange result }
+{
+    find(t, Test::ZombieChildOf(s))
+}
+
+pub fn thread_of(t: &[u64; Table::WORDS], m: Option<usize>) -> Option<usize>
+    ensures { (result ≡ lowest (thread_of m) (table_of t.now).core.slots) × InRange result }
+{
+    find(t, Test::ThreadOf(m))
+}
+
+pub fn thread_named(t: &[u64; Table::WORDS], p: Pid, m: Option<usize>) -> Option<usize>
+    ensures { (result ≡ lowest (thread_named p m) (table_of t.now).core.slots) × InRange result }
+{
+    find(t, Test::ThreadNamed(p, m))
 }
 
 pub fn new_group(t: &[u64; Table::WORDS]) -> usize

@@ -6,9 +6,7 @@ ghost use Rattle.promises.specs.Order.Sound.{Sound};
 ghost use Rattle.promises.specs.Did.{Did};
 ghost use Rattle.words.specs.Reading.{table_of};
 
-use rules::{Answer, Parent, Pid, Refusal, Slot};
-use scans::{Found, Test};
-use taking::Got;
+use rules::{Answer, Grant, Pid, Refusal, Slot};
 use words::{Table, book, queue};
 
 // The first device's channel: 0 is none, then each slot's own.
@@ -20,18 +18,18 @@ pub fn dequeue_runnable(t: &mut [u64; Table::WORDS], hart: usize) -> Answer
     ensures { Did (dispatch hart) (table_of t.old) result (table_of t.new) }
 {
     if hart >= Table::HARTS {
-        return Answer::Refused(Refusal::NoSuchHart);
+        return Err(Refusal::NoSuchHart);
     }
     let p = book::hart_at(t, hart);
-    if let Parent::Of(_) = p {
-        return Answer::Refused(Refusal::HartBusy);
+    if let Some(_) = p {
+        return Err(Refusal::HartBusy);
     }
     if queue::waiting(t) == 0 {
-        return Answer::Refused(Refusal::QueueEmpty);
+        return Err(Refusal::QueueEmpty);
     }
     let i = queue::pop(t);
     moves::run_on(t, hart, i);
-    Answer::Handed(Slot(i))
+    Ok(Grant::Handed(Slot(i)))
 }
 
 pub fn yielding(t: &mut [u64; Table::WORDS], hart: usize) -> Answer
@@ -40,10 +38,10 @@ pub fn yielding(t: &mut [u64; Table::WORDS], hart: usize) -> Answer
 {
     let c = taking::caller_on(t, hart);
     match c {
-        Got::No(n) => Answer::Refused(n),
-        Got::Is(caller) => {
+        Err(n) => Err(n),
+        Ok(caller) => {
             moves::yield_on(t, hart, caller);
-            Answer::Done
+            Ok(Grant::Done)
         }
     }
 }
@@ -54,13 +52,13 @@ pub fn sleep(t: &mut [u64; Table::WORDS], hart: usize, channel: u64) -> Answer
 {
     let c = taking::caller_on(t, hart);
     match c {
-        Got::No(n) => Answer::Refused(n),
-        Got::Is(caller) => {
+        Err(n) => Err(n),
+        Ok(caller) => {
             if channel < FIRST_DEVICE {
-                return Answer::Refused(Refusal::NotADevice);
+                return Err(Refusal::NotADevice);
             }
             moves::sleep_on(t, hart, caller, channel);
-            Answer::Done
+            Ok(Grant::Done)
         }
     }
 }
@@ -70,22 +68,22 @@ pub fn wake_up(t: &mut [u64; Table::WORDS], channel: u64) -> Answer
     ensures { Did (wakeup channel) (table_of t.old) result (table_of t.new) }
 {
     if channel < FIRST_DEVICE {
-        return Answer::Refused(Refusal::NotADevice);
+        return Err(Refusal::NotADevice);
     }
     wakes::wake_up(t, channel);
-    Answer::Done
+    Ok(Grant::Done)
 }
 
 pub fn kill(t: &mut [u64; Table::WORDS], pid: Pid) -> Answer
     requires { Sound (table_of t.old) }
     ensures { Did (kill pid) (table_of t.old) result (table_of t.new) }
 {
-    let f = scans::find(t, Test::HasPid(pid));
+    let f = scans::with_pid(t, pid);
     match f {
-        Found::Nothing => Answer::Refused(Refusal::NoneSuch),
-        Found::At(i) => {
+        None => Err(Refusal::NoneSuch),
+        Some(i) => {
             wakes::slay(t, i);
-            Answer::Done
+            Ok(Grant::Done)
         }
     }
 }

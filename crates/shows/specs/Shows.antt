@@ -1,9 +1,7 @@
 -- The table as text: its first line, and a line for each slot.
-use Rattle.std.specs.Prelude.{ℕ, suc, zero, ◌+◌, ◌*◌, cond, List, [], ◌∷◌, ◌++◌, map}
+use Rattle.std.specs.Prelude.{ℕ, suc, zero, ◌+◌, ◌*◌, cond, List, [], ◌∷◌, ◌++◌, map, Option, Some, None}
+use Rattle.rules.specs.declared.Slot.{Slot}
 use Rattle.rules.specs.declared.ProcState.TheVariants.{UNUSED}
-use Rattle.rules.specs.declared.Parent.{Parent}
-use Rattle.rules.specs.declared.Member.{Member}
-use Rattle.rules.specs.declared.Member.TheVariants.{Alone, In}
 use Rattle.rules.specs.declared.ProcMeta.{ProcMeta}
 use Rattle.rules.specs.declared.Kin.{Kin}
 use Rattle.rules.specs.declared.Start.{Start}
@@ -29,7 +27,7 @@ unfoldable pub queue_text : List ℕ → List ℕ
 queue_text [] = bytes " queue -"
 queue_text (s ∷ q) = bytes " queue " ++ separated (map digits (s ∷ q))
 
-unfoldable pub harts_text : List Parent → List ℕ
+unfoldable pub harts_text : List (Option Slot) → List ℕ
 harts_text harts = bytes " harts " ++ separated (map place_text harts)
 
 unfoldable pub head_text : Table → List ℕ
@@ -42,9 +40,9 @@ meta_text m =
     bytes " " ++ state_text m.state ++ field " channel " m.channel ++ flag " killed " m.killed ++ field " status " m.xstate
     ++ field " pid " m.pid.0 ++ flag " queued " m.queued
 
-unfoldable pub group_text : Books → Member → List ℕ
-group_text b Alone = bytes " group - size 0"
-group_text b (In g) = field " group " g ++ field " size " (group_at b g).size
+unfoldable pub group_text : Books → Option ℕ → List ℕ
+group_text b None = bytes " group - size 0"
+group_text b (Some g) = field " group " g ++ field " size " (group_at b g).size
 
 unfoldable pub kin_text : Books → Kin → List ℕ
 kin_text b k = place " parent " k.parent ++ flag " thread " k.thread ++ flag " system " k.system ++ group_text b k.group

@@ -8,7 +8,7 @@ ghost use Rattle.buffers.specs.Text.{Wrote};
 ghost use Rattle.shows.specs.Shows.{meta_text, group_text, kin_text, record_text, name_text, start_text, state_top, meta_top, group_top, kin_top, record_top, name_top, start_top};
 
 use pieces::state;
-use rules::{Member, ProcMeta, ProcState};
+use rules::{ProcMeta, ProcState};
 use words::slot::StartWords;
 use words::{Table, book, slot};
 
@@ -34,13 +34,13 @@ pub fn write_meta(out: &mut [u8], at: usize, m: ProcMeta) -> usize
     pieces::write_flag(out, e, b" queued ", m.queued)
 }
 
-fn write_group(t: &[u64; Table::WORDS], out: &mut [u8], at: usize, g: Member) -> usize
+fn write_group(t: &[u64; Table::WORDS], out: &mut [u8], at: usize, g: Option<usize>) -> usize
     requires { InGroups g × (at + group_top ≤ length out.old) }
     ensures { Wrote out.old at (group_text (table_of t.now).books g) out.new result × (result ≤ at + group_top) }
 {
     match g {
-        Member::Alone => buffers::write(out, at, b" group - size 0"),
-        Member::In(n) => {
+        None => buffers::write(out, at, b" group - size 0"),
+        Some(n) => {
             let group = book::group_at(t, n);
             let on = pieces::write_field(out, at, b" group ", n as u64);
             pieces::write_field(out, on, b" size ", group.size)

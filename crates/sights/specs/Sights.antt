@@ -1,13 +1,8 @@
 -- What a host reads of a table: whether a text fits, in three words; the table's text in a buffer; a slot, in ten words.
-use Rattle.std.specs.Prelude.{ℕ, suc, Bool, cond, List, [], ◌∷◌, length, ltb}
-use Rattle.rules.specs.declared.Room.{Room}
-use Rattle.rules.specs.declared.Room.TheVariants.{Fits, Short}
+use Rattle.std.specs.Prelude.{ℕ, suc, Bool, cond, List, [], ◌∷◌, length, ltb, Option, Some, None, Result, Ok, Err}
+use Rattle.rules.specs.declared.Slot.{Slot}
+use Rattle.rules.specs.declared.Refusal.{Refusal}
 use Rattle.rules.specs.declared.Refusal.TheVariants.{NoRoom}
-use Rattle.rules.specs.declared.Answer.TheVariants.{Refused}
-use Rattle.rules.specs.declared.Parent.{Parent}
-use Rattle.rules.specs.declared.Parent.TheVariants.{Nobody, Of}
-use Rattle.rules.specs.declared.Member.{Member}
-use Rattle.rules.specs.declared.Member.TheVariants.{Alone, In}
 use Rattle.rules.specs.declared.Process.{Process}
 use Rattle.rules.specs.Model.{Table, state_code}
 use Rattle.buffers.specs.Text.{put}
@@ -15,13 +10,13 @@ use Rattle.answers.specs.Words.{coded}
 use Rattle.shows.specs.Shows.{show_text, show_top}
 
 -- ---- a text fits: 7 and its length, or why not
-unfoldable pub room_words : Room → List ℕ
-room_words (Fits n) = 7 ∷ n ∷ 0 ∷ []
-room_words (Short why) = coded (Refused why)
+unfoldable pub room_words : Result ℕ Refusal → List ℕ
+room_words (Ok n) = 7 ∷ n ∷ 0 ∷ []
+room_words (Err why) = coded (Err why)
 
 -- ---- the table's text, in a buffer with room for any table's
-unfoldable pub show_room : Table → ℕ → Room
-show_room t room = cond (ltb room show_top) (Short NoRoom) (Fits (length (show_text t)))
+unfoldable pub show_room : Table → ℕ → Result ℕ Refusal
+show_room t room = cond (ltb room show_top) (Err NoRoom) (Ok (length (show_text t)))
 
 unfoldable pub show_buffer : Table → List ℕ → List ℕ
 show_buffer t b = cond (ltb (length b) show_top) b (put b 0 (show_text t))
@@ -32,13 +27,13 @@ unfoldable pub flag_word : Bool → ℕ
 flag_word b = cond b 1 0
 
 -- none is 0, a slot or a group one more than its number
-unfoldable pub place_word : Parent → ℕ
-place_word Nobody = 0
-place_word (Of s) = suc s.0
+unfoldable pub place_word : Option Slot → ℕ
+place_word None = 0
+place_word (Some s) = suc s.0
 
-unfoldable pub group_word : Member → ℕ
-group_word Alone = 0
-group_word (In g) = suc g
+unfoldable pub group_word : Option ℕ → ℕ
+group_word None = 0
+group_word (Some g) = suc g
 
 unfoldable pub slot_words : Process → List ℕ
 slot_words p =

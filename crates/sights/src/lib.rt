@@ -7,7 +7,7 @@ ghost use Rattle.words.specs.Reading.{table_of};
 ghost use Rattle.answers.specs.Words.{coded};
 ghost use Rattle.sights.specs.Sights.{room_words, show_room, show_buffer};
 
-use rules::{Answer, Refusal, Room};
+use rules::{Answer, Refusal};
 use words::Table;
 
 pub mod slot; // a slot in ten words
@@ -23,22 +23,22 @@ pub fn words_of(a: Answer) -> [u64; answers::WORDS]
     w
 }
 
-pub fn room_words(room: Room) -> [u64; answers::WORDS]
+pub fn room_words(room: Result<usize, Refusal>) -> [u64; answers::WORDS]
     ensures { result ≡ room_words room }
 {
     match room {
-        Room::Fits(n) => [LISTED, n as u64, 0],
-        Room::Short(why) => words_of(Answer::Refused(why)),
+        Ok(n) => [LISTED, n as u64, 0],
+        Err(why) => words_of(Err(why)),
     }
 }
 
-pub fn show_into(t: &[u64; Table::WORDS], buffer: &mut [u8]) -> Room
+pub fn show_into(t: &[u64; Table::WORDS], buffer: &mut [u8]) -> Result<usize, Refusal>
     requires { Sound (table_of t.now) }
     ensures answer { result ≡ show_room (table_of t.now) (length buffer.old) }
     ensures written { buffer.new ≡ show_buffer (table_of t.now) buffer.old }
 {
     if buffer.len() < shows::TOP {
-        return Room::Short(Refusal::NoRoom);
+        return Err(Refusal::NoRoom);
     }
-    Room::Fits(shows::write_show(t, buffer, 0))
+    Ok(shows::write_show(t, buffer, 0))
 }

@@ -5,7 +5,7 @@ ghost use Rattle.rules.specs.Model.{at};
 ghost use Rattle.words.specs.Reading.{table_of, InTable, InGroups};
 ghost use Rattle.sights.specs.Sights.{flag_word, place_word, group_word, slot_words};
 
-use rules::{Member, Parent};
+use rules::Slot;
 use words::{Table, slot, word};
 
 pub const WORDS: usize = 10;
@@ -16,23 +16,23 @@ fn flag(b: bool) -> u64
     if b { 1 } else { 0 }
 }
 
-fn place(p: Parent) -> u64
+fn place(p: Option<Slot>) -> u64
     requires { InTable p }
     ensures { result ≡ place_word p }
 {
     match p {
-        Parent::Nobody => 0,
-        Parent::Of(s) => (s.0 as u64) + 1,
+        None => 0,
+        Some(s) => (s.0 as u64) + 1,
     }
 }
 
-fn group(m: Member) -> u64
+fn group(m: Option<usize>) -> u64
     requires { InGroups m }
     ensures { result ≡ group_word m }
 {
     match m {
-        Member::Alone => 0,
-        Member::In(g) => (g as u64) + 1,
+        None => 0,
+        Some(g) => (g as u64) + 1,
     }
 }
 

@@ -9,7 +9,7 @@ use lib.Seq.{take_all, take-nil}
 use lib.Dec.{ltb}
 use lib.IntN.{ℤ}
 use borrow.Author.Tests.{lt-ltb, le-ltb, ltb-false}
-use Rattle.rules.specs.declared.Answer.{Answer}
+use Rattle.rules.specs.Types.{Answer}
 use Rattle.rules.specs.Model.{Table}
 use Rattle.rules.specs.Runs.{spawn, grow}
 use Rattle.promises.specs.Did.{Did}

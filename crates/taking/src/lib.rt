@@ -12,45 +12,37 @@ ghost use Rattle.words.specs.Reading.{table_of, start_of, InTable, InGroups};
 ghost use Rattle.words.specs.Effects.{on_books};
 ghost use Rattle.taking.specs.Parts.{caller_of, InHart, taken_of, after_take, InSlots, slot_of};
 
-use rules::{Group, Kin, Member, Parent, Pid, ProcMeta, ProcState, Refusal};
-use scans::{Found, Test};
+use rules::{Group, Kin, Pid, ProcMeta, ProcState, Refusal};
 use words::slot::StartWords;
 use words::{Table, book, slot};
 
-// A slot, the caller's or one just taken, or why there is none.
-#[derive(Clone, Copy)]
-pub enum Got {
-    No(Refusal),
-    Is(usize),
-}
-
 // The slot that the hart runs.
-pub fn caller_on(t: &[u64; Table::WORDS], hart: usize) -> Got
+pub fn caller_on(t: &[u64; Table::WORDS], hart: usize) -> Result<usize, Refusal>
     ensures { (result ≡ caller_of (table_of t.now).core hart) × InHart hart result }
 {
     if hart >= Table::HARTS {
-        return Got::No(Refusal::NoSuchHart);
+        return Err(Refusal::NoSuchHart);
     }
     let p = book::hart_at(t, hart);
-    let Parent::Of(caller) = p else {
-        return Got::No(Refusal::HartIdle);
+    let Some(caller) = p else {
+        return Err(Refusal::HartIdle);
     };
-    Got::Is(caller.0)
+    Ok(caller.0)
 }
 
 // The pid counter goes up first, even if no slot is UNUSED; the lowest UNUSED slot wins.
-pub fn alloc_proc(t: &mut [u64; Table::WORDS]) -> Got
+pub fn alloc_proc(t: &mut [u64; Table::WORDS]) -> Result<usize, Refusal>
     ensures { (result ≡ taken_of (table_of t.old)) × (table_of t.new ≡ after_take (table_of t.old)) × InSlots result }
 {
     let n = book::pids(t);
     if n >= u64::MAX {
-        return Got::No(Refusal::PidsSpent);
+        return Err(Refusal::PidsSpent);
     }
     book::set_pids(t, n + 1);
-    let Found::At(i) = scans::find(t, Test::Unused) else {
-        return Got::No(Refusal::TableFull);
+    let Some(i) = scans::unused(t) else {
+        return Err(Refusal::TableFull);
     };
-    Got::Is(i)
+    Ok(i)
 }
 
 // A slot's parts, all set.
@@ -103,11 +95,11 @@ fn leave(t: &mut [u64; Table::WORDS], g: usize)
     }
 }
 
-fn leave_group(t: &mut [u64; Table::WORDS], m: Member)
+fn leave_group(t: &mut [u64; Table::WORDS], m: Option<usize>)
     requires { InGroups m }
     ensures { table_of t.new ≡ on_books (leave_group m) (table_of t.old) }
 {
-    let Member::In(g) = m else {
+    let Some(g) = m else {
         return;
     };
     leave(t, g);
@@ -130,8 +122,8 @@ fn clear(t: &mut [u64; Table::WORDS], i: usize)
             queued: false,
         },
         Kin {
-            group: Member::Alone,
-            parent: Parent::Nobody,
+            group: None,
+            parent: None,
             thread: false,
             system: false,
         },

@@ -1,9 +1,9 @@
 -- An answer as text.
-use Rattle.std.specs.Prelude.{ℕ, ◌+◌, ◌*◌, List, ◌++◌}
+use Rattle.std.specs.Prelude.{ℕ, ◌+◌, ◌*◌, List, ◌++◌, Ok, Err}
 use Rattle.rules.specs.declared.Refusal.{Refusal}
 use Rattle.rules.specs.declared.Refusal.TheVariants.{NoSuchHart, HartIdle, HartBusy, QueueEmpty, TableFull, PidsSpent, NoGroup, BadAddress, Unmapped, NoneSuch, StatusUnwritable, InitOutOfTurn, WrongWayOut, NotADevice, NameTooLong, NoRoom, SizeOutOfLimits, NoMemory}
-use Rattle.rules.specs.declared.Answer.{Answer}
-use Rattle.rules.specs.declared.Answer.TheVariants.{Done, Made, Handed, Reaped, Joined, Blocked, Refused}
+use Rattle.rules.specs.Types.{Answer}
+use Rattle.rules.specs.declared.Grant.TheVariants.{Done, Made, Handed, Reaped, Joined, Blocked}
 use Rattle.rules.specs.Answers.{number_of}
 use Rattle.rules.specs.Listing.{bytes}
 use Rattle.pieces.specs.Pieces.{signed_digits, field, number_top}
@@ -29,13 +29,13 @@ refusal_words SizeOutOfLimits = bytes "size out of limits"
 refusal_words NoMemory = bytes "no memory"
 
 unfoldable pub said_of : Answer → List ℕ
-said_of Done = bytes "done"
-said_of (Made p) = field "pid " p.0
-said_of (Handed s) = field "slot " s.0
-said_of (Reaped p x) = field "reaped " p.0 ++ field " " x
-said_of (Joined x) = bytes "joined " ++ signed_digits x
-said_of Blocked = bytes "blocked"
-said_of (Refused r) = field "refused " (number_of r) ++ bytes " " ++ refusal_words r
+said_of (Ok Done) = bytes "done"
+said_of (Ok (Made p)) = field "pid " p.0
+said_of (Ok (Handed s)) = field "slot " s.0
+said_of (Ok (Reaped p x)) = field "reaped " p.0 ++ field " " x
+said_of (Ok (Joined x)) = bytes "joined " ++ signed_digits x
+said_of (Ok Blocked) = bytes "blocked"
+said_of (Err r) = field "refused " (number_of r) ++ bytes " " ++ refusal_words r
 
 unfoldable pub answer_text : Answer → List ℕ
 answer_text a = said_of a ++ bytes "\n"

@@ -1,8 +1,7 @@
 // Wait and join: a ZOMBIE is reaped, or the caller sleeps until there is one.
 #![tactic(auto)]
 
-ghost use Rattle.std.specs.Prelude.{◌≡◌, ◌<◌};
-ghost use Rattle.std.proofs.Math.Option.{none, some};
+ghost use Rattle.std.specs.Prelude.{◌≡◌, ◌<◌, Some, None};
 ghost use Rattle.rules.specs.Sizes.{slot_count, hart_count};
 ghost use Rattle.rules.specs.Calls.{unwritable, signed, waited_for, joined_to, joined_by};
 ghost use Rattle.rules.specs.Runs.{wait, join};
@@ -10,9 +9,7 @@ ghost use Rattle.promises.specs.Order.Sound.{Sound};
 ghost use Rattle.promises.specs.Did.{Makes, Did};
 ghost use Rattle.words.specs.Reading.{table_of};
 
-use rules::{Answer, Member, Pid, ProcState, Refusal, Wish};
-use scans::{Found, Test};
-use taking::Got;
+use rules::{Answer, Grant, Pid, ProcState, Refusal, Wish};
 use words::{Table, slot};
 
 fn unwritable(wish: Wish) -> bool
@@ -45,30 +42,30 @@ fn reap_child(
     i: usize,
 ) -> Answer
     requires { i < slot_count }
-    ensures { Makes (waited_for (table_of t.old) hart wish caller (some i)) result (table_of t.new) }
+    ensures { Makes (waited_for (table_of t.old) hart wish caller (Some i)) result (table_of t.new) }
 {
     if unwritable(wish) {
-        return Answer::Refused(Refusal::StatusUnwritable);
+        return Err(Refusal::StatusUnwritable);
     }
     let m = slot::meta_at(t, i);
     let pid = m.pid;
     taking::free_proc(t, i);
-    Answer::Reaped(pid, m.xstate)
+    Ok(Grant::Reaped(pid, m.xstate))
 }
 
 fn await_child(t: &mut [u64; Table::WORDS], hart: usize, wish: Wish, caller: usize) -> Answer
     requires { (hart < hart_count) × (caller < slot_count) }
-    ensures { Makes (waited_for (table_of t.old) hart wish caller none) result (table_of t.new) }
+    ensures { Makes (waited_for (table_of t.old) hart wish caller None) result (table_of t.new) }
 {
     let m = slot::meta_at(t, caller);
     if m.killed {
-        return Answer::Refused(Refusal::NoneSuch);
+        return Err(Refusal::NoneSuch);
     }
-    let Found::At(_) = scans::find(t, Test::ChildOf(caller)) else {
-        return Answer::Refused(Refusal::NoneSuch);
+    let Some(_) = scans::child_of(t, caller) else {
+        return Err(Refusal::NoneSuch);
     };
     moves::sleep_on(t, hart, caller, moves::own_channel(caller));
-    Answer::Blocked
+    Ok(Grant::Blocked)
 }
 
 // `killed` is looked at only after the scan.
@@ -78,11 +75,11 @@ pub fn wait(t: &mut [u64; Table::WORDS], hart: usize, wish: Wish) -> Answer
 {
     let c = taking::caller_on(t, hart);
     match c {
-        Got::No(n) => Answer::Refused(n),
-        Got::Is(caller) => {
-            match scans::find(t, Test::ZombieChildOf(caller)) {
-                Found::At(i) => reap_child(t, hart, wish, caller, i),
-                Found::Nothing => await_child(t, hart, wish, caller),
+        Err(n) => Err(n),
+        Ok(caller) => {
+            match scans::zombie_child_of(t, caller) {
+                Some(i) => reap_child(t, hart, wish, caller, i),
+                None => await_child(t, hart, wish, caller),
             }
         }
     }
@@ -95,14 +92,14 @@ fn join_to(t: &mut [u64; Table::WORDS], hart: usize, wish: Wish, caller: usize, 
 {
     if scans::is(t, i, ProcState::ZOMBIE) {
         if unwritable(wish) {
-            return Answer::Refused(Refusal::StatusUnwritable);
+            return Err(Refusal::StatusUnwritable);
         }
         let m = slot::meta_at(t, i);
         taking::free_proc(t, i);
-        return Answer::Joined(signed(m.xstate));
+        return Ok(Grant::Joined(signed(m.xstate)));
     }
     moves::sleep_on(t, hart, caller, moves::own_channel(i));
-    Answer::Blocked
+    Ok(Grant::Blocked)
 }
 
 fn join_by(t: &mut [u64; Table::WORDS], hart: usize, pid: Pid, wish: Wish, caller: usize) -> Answer
@@ -111,17 +108,17 @@ fn join_by(t: &mut [u64; Table::WORDS], hart: usize, pid: Pid, wish: Wish, calle
 {
     let k = slot::kin_at(t, caller);
     let group = k.group;
-    let Member::In(g) = group else {
-        return Answer::Refused(Refusal::NoGroup);
+    let Some(g) = group else {
+        return Err(Refusal::NoGroup);
     };
     let m = slot::meta_at(t, caller);
     let own = m.pid;
     if own.0 == pid.0 {
-        return Answer::Refused(Refusal::NoneSuch);
+        return Err(Refusal::NoneSuch);
     }
-    match scans::find(t, Test::ThreadNamed(pid, Member::In(g))) {
-        Found::Nothing => Answer::Refused(Refusal::NoneSuch),
-        Found::At(i) => join_to(t, hart, wish, caller, i),
+    match scans::thread_named(t, pid, Some(g)) {
+        None => Err(Refusal::NoneSuch),
+        Some(i) => join_to(t, hart, wish, caller, i),
     }
 }
 
@@ -131,7 +128,7 @@ pub fn join_user_thread(t: &mut [u64; Table::WORDS], hart: usize, pid: Pid, wish
 {
     let c = taking::caller_on(t, hart);
     match c {
-        Got::No(n) => Answer::Refused(n),
-        Got::Is(caller) => join_by(t, hart, pid, wish, caller),
+        Err(n) => Err(n),
+        Ok(caller) => join_by(t, hart, pid, wish, caller),
     }
 }

@@ -1,4 +1,5 @@
 -- The rules' wake, kill and reparent, as the code goes through them.
+use Rattle.std.specs.Prelude.{Option, Some, None}
 use Prim.Native.Nat.{ℕ, ◌+◌}
 use native.Mathlib.Omega.{arith}
 use native.Mathlib.Numerals.{add-one}
@@ -7,8 +8,6 @@ use mathlib.Core.Bool.{true, false}
 use borrow.Author.Tests.{eq-eqb, ne_eqb}
 use Rattle.rules.specs.declared.Slot.{Slot}
 use Rattle.rules.specs.declared.ProcState.TheVariants.{UNUSED, RUNNABLE, SLEEPING}
-use Rattle.rules.specs.declared.Parent.{Parent}
-use Rattle.rules.specs.declared.Parent.TheVariants.{Nobody, Of}
 use Prim.Native.Nat.{◌<◌}
 use lib.ListN.{length}
 use Rattle.rules.specs.Sizes.{slot_count, own_channel}
@@ -63,11 +62,11 @@ pub wake-all : (ch : ℕ) (t : Table) {u : Table} → u ≡ on_core (sweep (wake
 unfolding wake
 wake-all ch t e = e
 
-pub wake-nobody : (p : Parent) (t : Table) → p ≡ Nobody → t ≡ on_core (wake_of p) t
+pub wake-nobody : (p : Option Slot) (t : Table) → p ≡ None → t ≡ on_core (wake_of p) t
 unfolding wake_of on_core
 wake-nobody p t e = rw e
 
-pub wake-somebody : (p : Parent) (s : Slot) (t : Table) → p ≡ Of s → on_core (wake (own_channel s.0)) t ≡ on_core (wake_of p) t
+pub wake-somebody : (p : Option Slot) (s : Slot) (t : Table) → p ≡ Some s → on_core (wake (own_channel s.0)) t ≡ on_core (wake_of p) t
 unfolding wake_of on_core
 wake-somebody p s t e = rw e
 
@@ -82,27 +81,27 @@ module _ (t : Table) (s : ℕ) where
   slay-awake e = rw e
 
 -- ---- reparent
-pub adopt-law : (t : Table) (i : ℕ) (q : Parent) {u : Table} → u ≡ on_core (change (with_parent q) i) t → on_core (wake_of q) u ≡ on_core (λ c. wake_of q (change (with_parent q) i c)) t
+pub adopt-law : (t : Table) (i : ℕ) (q : Option Slot) {u : Table} → u ≡ on_core (change (with_parent q) i) t → on_core (wake_of q) u ≡ on_core (λ c. wake_of q (change (with_parent q) i c)) t
 unfolding on_core
 adopt-law t i q e = ap (on_core (wake_of q)) e
 
-pub adopt-queued : (t : Table) (i : ℕ) (q : Parent) {u : Table} → u ≡ on_core (change (with_parent q) i) t → Queued t.core → Queued u.core
+pub adopt-queued : (t : Table) (i : ℕ) (q : Option Slot) {u : Table} → u ≡ on_core (change (with_parent q) i) t → Queued t.core → Queued u.core
 unfolding on_core
 adopt-queued t i q e v = rw e (parent-queued q i t.core v)
 
-module _ (init : Parent) (s i : ℕ) (t : Table) where
-  pub hand-none : (at t.core i).kin.parent ≡ Nobody → t ≡ on_core (hand_over init s i) t
+module _ (init : Option Slot) (s i : ℕ) (t : Table) where
+  pub hand-none : (at t.core i).kin.parent ≡ None → t ≡ on_core (hand_over init s i) t
   unfolding hand_over on_core
   hand-none e = rw e
 
-  pub hand-other : {x : Slot} → (s ≡ x.0 → ⊥) → (at t.core i).kin.parent ≡ Of x → t ≡ on_core (hand_over init s i) t
+  pub hand-other : {x : Slot} → (s ≡ x.0 → ⊥) → (at t.core i).kin.parent ≡ Some x → t ≡ on_core (hand_over init s i) t
   unfolding hand_over on_core
   hand-other {x} n e = rw (e, ne_eqb s x.0 n)
 
-  pub hand-this : {x : Slot} → s ≡ x.0 → (at t.core i).kin.parent ≡ Of x → on_core (λ c. wake_of init (change (with_parent init) i c)) t ≡ on_core (hand_over init s i) t
+  pub hand-this : {x : Slot} → s ≡ x.0 → (at t.core i).kin.parent ≡ Some x → on_core (λ c. wake_of init (change (with_parent init) i c)) t ≡ on_core (hand_over init s i) t
   unfolding hand_over on_core
   hand-this {x} n e = rw (e, eq-eqb s x.0 n)
 
-pub reparent-all : (s : ℕ) (t : Table) {u : Table} (init : Parent) → init ≡ t.books.init → u ≡ on_core (sweep (hand_over init s) slot_count) t → u ≡ on_core (reparent t.books.init s) t
+pub reparent-all : (s : ℕ) (t : Table) {u : Table} (init : Option Slot) → init ≡ t.books.init → u ≡ on_core (sweep (hand_over init s) slot_count) t → u ≡ on_core (reparent t.books.init s) t
 unfolding reparent
-reparent-all s t init f e = e ∙ ap (λ (q : Parent). on_core (sweep (hand_over q s) slot_count) t) f
+reparent-all s t init f e = e ∙ ap (λ (q : Option Slot). on_core (sweep (hand_over q s) slot_count) t) f

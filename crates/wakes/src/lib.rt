@@ -9,7 +9,7 @@ ghost use Rattle.promises.specs.Order.Sound.{Queued};
 ghost use Rattle.promises.specs.Order.Chains.{on_core};
 ghost use Rattle.words.specs.Reading.{table_of, InTable};
 
-use rules::{Parent, ProcState};
+use rules::{ProcState, Slot};
 use words::{Table, book, slot};
 
 fn wake_one(t: &mut [u64; Table::WORDS], i: usize, channel: u64)
@@ -38,11 +38,11 @@ pub fn wake_up(t: &mut [u64; Table::WORDS], channel: u64)
 }
 
 // The own channel of the slot is woken, where there is a slot.
-pub fn wake_of(t: &mut [u64; Table::WORDS], p: Parent)
+pub fn wake_of(t: &mut [u64; Table::WORDS], p: Option<Slot>)
     requires { InTable p × Queued (table_of t.old).core }
     ensures { table_of t.new ≡ on_core (wake_of p) (table_of t.old) }
 {
-    let Parent::Of(i) = p else {
+    let Some(i) = p else {
         return;
     };
     wake_up(t, moves::own_channel(i.0));
@@ -60,7 +60,7 @@ pub fn slay(t: &mut [u64; Table::WORDS], i: usize)
     }
 }
 
-fn adopt(t: &mut [u64; Table::WORDS], init: Parent, i: usize)
+fn adopt(t: &mut [u64; Table::WORDS], init: Option<Slot>, i: usize)
     requires { (i < slot_count) × InTable init × Queued (table_of t.old).core }
     ensures { table_of t.new ≡ on_core (λ c. wake_of init (change (with_parent init) i c)) (table_of t.old) }
 {
@@ -68,12 +68,12 @@ fn adopt(t: &mut [u64; Table::WORDS], init: Parent, i: usize)
     wake_of(t, init);
 }
 
-fn hand_over(t: &mut [u64; Table::WORDS], init: Parent, caller: usize, i: usize)
+fn hand_over(t: &mut [u64; Table::WORDS], init: Option<Slot>, caller: usize, i: usize)
     requires { (i < slot_count) × InTable init × Queued (table_of t.old).core }
     ensures { table_of t.new ≡ on_core (hand_over init caller i) (table_of t.old) }
 {
     let parent = slot::parent_at(t, i);
-    let Parent::Of(p) = parent else {
+    let Some(p) = parent else {
         return;
     };
     if caller == p.0 {

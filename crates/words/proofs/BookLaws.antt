@@ -1,7 +1,7 @@
 -- Groups, harts, init and the pid counter: read and set.
+use Rattle.std.specs.Prelude.{Option, None}
+use Rattle.rules.specs.declared.Slot.{Slot}
 use Rattle.std.proofs.Common.{◌≡◌, ℕ, ◌+◌, ◌<◌, ◌≤◌, ◌≢◌, List, length, set, sym, refl, ap, ◌∙◌, arith}
-use Rattle.rules.specs.declared.Parent.{Parent}
-use Rattle.rules.specs.declared.Parent.TheVariants.{Nobody}
 use Rattle.rules.specs.declared.Group.{Group}
 use Rattle.rules.specs.Sizes.{slot_count, group_count, hart_count}
 use Rattle.rules.specs.Model.{hart_at, group_at, no_group}
@@ -23,7 +23,7 @@ group-law w g b = sym (get_d-tab group_count (group_of w) g no_group b)
 
 pub hart-law : (w : List ℕ) (h : ℕ) → h < hart_count → parent_of (cell w (hart_cell h)) ≡ hart_at (table_of w).core h
 unfolding table_of core_of harts_of
-hart-law w h b = sym (get_d-tab hart_count (λ i. parent_of (cell w (hart_cell i))) h Nobody b)
+hart-law w h b = sym (get_d-tab hart_count (λ i. parent_of (cell w (hart_cell i))) h None b)
 
 pub init-law : (w : List ℕ) → parent_of (cell w init_cell) ≡ (table_of w).books.init
 unfolding table_of books_of
@@ -49,13 +49,13 @@ module _ (w : List ℕ) (lw : length w ≡ word_count) where
   in_words : (k : ℕ) → k < cells + hart_count → cell_at k < length w
   in_words k b = omega (arith, lw, cell-range k b)
 
-  pub set-hart-law : (h : ℕ) (p : Parent) → h < hart_count → InTable p → table_of (set w (cell_at (hart_cell h)) (parent_word p)) ≡ on_core (with_hart h p) (table_of w)
+  pub set-hart-law : (h : ℕ) (p : Option Slot) → h < hart_count → InTable p → table_of (set w (cell_at (hart_cell h)) (parent_word p)) ≡ on_core (with_hart h p) (table_of w)
   unfolding table_of core_of books_of harts_of on_core with_hart
   set-hart-law h p b t =
       table_is
       (core_is (cell-slots w (hart_cell h) v)
       (cell-queue w (hart_cell h) v run_queue (omega arith) (λ e. omega arith) (λ e. omega arith))
-      (tab-set hart_count (λ i. parent_of (cell w (hart_cell i))) (λ i. parent_of (cell (set w (cell_at (hart_cell h)) v) (hart_cell i))) h p Nobody b
+      (tab-set hart_count (λ i. parent_of (cell w (hart_cell i))) (λ i. parent_of (cell (set w (cell_at (hart_cell h)) v) (hart_cell i))) h p None b
       (ap parent_of (cell-here w (hart_cell h) v (in_words (hart_cell h) (omega arith))) ∙ parent-back p t)
       (λ i _ n. ap parent_of (cell-there w (hart_cell h) v (hart_cell i) (λ f. n (omega arith))))))
       (books-is (cell-groups w (hart_cell h) v) (ap parent_of (apart init_cell (omega arith))) (apart pids_cell (omega arith)))
@@ -74,7 +74,7 @@ module _ (w : List ℕ) (lw : length w ≡ word_count) where
       (cell-queue w k v run_queue (omega arith) (λ e. omega arith) (λ e. omega arith))
       (harts-kept w _ (λ h b. cell-there w k v (hart_cell h) (λ e. omega arith)))
 
-  pub set-init-law : (p : Parent) → InTable p → table_of (set w (cell_at init_cell) (parent_word p)) ≡ on_books (with_init p) (table_of w)
+  pub set-init-law : (p : Option Slot) → InTable p → table_of (set w (cell_at init_cell) (parent_word p)) ≡ on_books (with_init p) (table_of w)
   unfolding table_of books_of on_books with_init
   set-init-law p t = table_is (books-cell init_cell (parent_word p) (omega arith) (omega arith))
       (books-is (cell-groups w init_cell _) (ap parent_of (cell-here w init_cell _ (in_words init_cell (omega arith))) ∙ parent-back p t) (cell-there w init_cell _ pids_cell (λ f. omega arith)))

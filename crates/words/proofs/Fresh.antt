@@ -1,9 +1,7 @@
 -- Words all zero hold the fresh table; and numbers become words and come back.
+use Rattle.std.specs.Prelude.{Option, Some, None}
+use Rattle.rules.specs.declared.Slot.{Slot}
 use Rattle.std.proofs.Common.{◌≡◌, ℕ, zero, suc, ◌+◌, ◌-◌, ◌%◌, ◌<◌, Bool, true, false, eqb, List, [], ◌∷◌, replicate, refl, ap, ◌∙◌, mod-eq_of_lt, arith, ne_eqb}
-use Rattle.rules.specs.declared.Parent.{Parent}
-use Rattle.rules.specs.declared.Parent.TheVariants.{Nobody, Of}
-use Rattle.rules.specs.declared.Member.{Member}
-use Rattle.rules.specs.declared.Member.TheVariants.{Alone, In}
 use Rattle.rules.specs.Sizes.{slot_count, group_count, hart_count, trapframe, trampoline, page_size, name_size}
 use Rattle.rules.specs.Model.{free, no_group, fresh}
 use Rattle.promises.specs.Laws.Lists.{same-all}
@@ -42,9 +40,9 @@ module _ (n : ℕ) where
   unfolding queue_at queue_of length_of reads ring_of count_at
   queue-new r = rw (cell-zero r.head, cell-zero r.tail)
 
-  harts-new : harts_of zeros ≡ replicate hart_count Nobody
+  harts-new : harts_of zeros ≡ replicate hart_count None
   unfolding harts_of tab
-  harts-new = tab-same hart_count 0 _ Nobody (λ h. ap parent_of (cell-zero (hart_cell h)))
+  harts-new = tab-same hart_count 0 _ None (λ h. ap parent_of (cell-zero (hart_cell h)))
 
   groups-new : groups_of zeros ≡ replicate group_count no_group
   unfolding groups_of tab
@@ -65,10 +63,10 @@ place-back n k b = let e : k + 1 - 1 ≡ k = omega arith in rw e (mod-eq_of_lt b
 some_word : (k : ℕ) → eqb (k + 1) 0 ≡ false
 some_word k = ne_eqb (k + 1) 0 (λ z. omega arith)
 
-pub parent-back : (p : Parent) → InTable p → parent_of (parent_word p) ≡ p
-parent-back Nobody b = refl
-parent-back (Of s) b = rw (some_word s.0, place-back slot_count s.0 b)
+pub parent-back : (p : Option Slot) → InTable p → parent_of (parent_word p) ≡ p
+parent-back None b = refl
+parent-back (Some s) b = rw (some_word s.0, place-back slot_count s.0 b)
 
-pub member_back : (m : Member) → InGroups m → member_of (member_word m) ≡ m
-member_back Alone b = refl
-member_back (In g) b = rw (some_word g, place-back group_count g b)
+pub member_back : (m : Option ℕ) → InGroups m → member_of (member_word m) ≡ m
+member_back None b = refl
+member_back (Some g) b = rw (some_word g, place-back group_count g b)

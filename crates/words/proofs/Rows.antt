@@ -1,7 +1,7 @@
 -- A slot's words: what a store in a slot's column, or elsewhere, changes of the table that the words hold.
+use Rattle.std.specs.Prelude.{Option, None}
+use Rattle.rules.specs.declared.Slot.{Slot}
 use Rattle.std.proofs.Common.{◌≡◌, ℕ, ◌%◌, ◌<◌, ◌≤◌, List, length, set, sym, refl, ap, ◌∙◌, arith, length-set}
-use Rattle.rules.specs.declared.Parent.{Parent}
-use Rattle.rules.specs.declared.Parent.TheVariants.{Nobody}
 use Rattle.rules.specs.declared.Process.{Process}
 use Rattle.rules.specs.declared.Group.{Group}
 use Rattle.rules.specs.Sizes.{slot_count, group_count, hart_count}
@@ -22,10 +22,10 @@ ring-is p q h = λ i. record { places = p i; head = q i; tail = h i }
 pub group-is : {m n j k : ℕ} → m ≡ n → j ≡ k → ◌≡◌ {A = Group} (record { size = m; count = j }) (record { size = n; count = k })
 group-is p q = λ i. record { size = p i; count = q i }
 
-pub books-is : {a b : List Group} {p q : Parent} {m n : ℕ} → a ≡ b → p ≡ q → m ≡ n → ◌≡◌ {A = Books} (record { groups = a; init = p; pids = m }) (record { groups = b; init = q; pids = n })
+pub books-is : {a b : List Group} {p q : Option Slot} {m n : ℕ} → a ≡ b → p ≡ q → m ≡ n → ◌≡◌ {A = Books} (record { groups = a; init = p; pids = m }) (record { groups = b; init = q; pids = n })
 books-is a p m = λ i. record { groups = a i; init = p i; pids = m i }
 
-pub core_is : {a b : List Process} {q r : List ℕ} {x y : List Parent} → a ≡ b → q ≡ r → x ≡ y → ◌≡◌ {A = Core} (record { slots = a; queue = q; harts = x }) (record { slots = b; queue = r; harts = y })
+pub core_is : {a b : List Process} {q r : List ℕ} {x y : List (Option Slot)} → a ≡ b → q ≡ r → x ≡ y → ◌≡◌ {A = Core} (record { slots = a; queue = q; harts = x }) (record { slots = b; queue = r; harts = y })
 core_is p q h = λ i. record { slots = p i; queue = q i; harts = h i }
 
 pub table_is : {c d : Core} {a b : Books} → c ≡ d → a ≡ b → ◌≡◌ {A = Table} (record { core = c; books = a }) (record { core = d; books = b })
@@ -53,7 +53,7 @@ module _ (w u : List ℕ) where
 
   pub harts-kept : ((h : ℕ) → h < hart_count → cell u (hart_cell h) ≡ cell w (hart_cell h)) → harts_of u ≡ harts_of w
   unfolding harts_of
-  harts-kept k = tab-same hart_count _ _ Nobody (λ h b. ap parent_of (k h b))
+  harts-kept k = tab-same hart_count _ _ None (λ h b. ap parent_of (k h b))
 
 -- ---- one slot's words: u is w but in slot s, whose words are r
 pub record Row (w u : List ℕ) (s : ℕ) (r : List ℕ) : Type 0 where

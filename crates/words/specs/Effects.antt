@@ -1,8 +1,8 @@
 -- What the accessors do to a table.
-use Rattle.std.specs.Prelude.{◌≡◌, ℕ, ◌+◌, ◌%◌, ◌<◌, Bool, List, [], ◌∷◌, ◌++◌, slice_set}
+use Rattle.std.specs.Prelude.{◌≡◌, ℕ, ◌+◌, ◌%◌, ◌<◌, Bool, List, [], ◌∷◌, ◌++◌, slice_set, Option}
+use Rattle.rules.specs.declared.Slot.{Slot}
 use Rattle.rules.specs.declared.Pid.{Pid}
 use Rattle.rules.specs.declared.ProcState.{ProcState}
-use Rattle.rules.specs.declared.Parent.{Parent}
 use Rattle.rules.specs.declared.ProcMeta.{ProcMeta}
 use Rattle.rules.specs.declared.Kin.{Kin}
 use Rattle.rules.specs.declared.Start.{Start}
@@ -47,7 +47,7 @@ with_kin k p = record { meta = p.meta; kin = k; start = p.start }
 abbrev pub with_start : Start → Process → Process
 with_start b p = record { meta = p.meta; kin = p.kin; start = b }
 
-unfoldable pub with_hart : ℕ → Parent → Core → Core
+unfoldable pub with_hart : ℕ → Option Slot → Core → Core
 with_hart h p c = record { slots = c.slots; queue = c.queue; harts = slice_set c.harts h p }
 
 unfoldable pub with_queue : List ℕ → Core → Core
@@ -56,7 +56,7 @@ with_queue q c = record { slots = c.slots; queue = q; harts = c.harts }
 unfoldable pub enqueue : ℕ → Core → Core
 enqueue s c = with_queue (c.queue ++ (s ∷ [])) c
 
-unfoldable pub with_init : Parent → Books → Books
+unfoldable pub with_init : Option Slot → Books → Books
 with_init p b = record { groups = b.groups; init = p; pids = b.pids }
 
 unfoldable pub with_pids : ℕ → Books → Books

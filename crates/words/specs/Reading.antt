@@ -1,11 +1,8 @@
 -- The table that the words hold. Every list of words holds one.
-use Rattle.std.specs.Prelude.{ℕ, zero, suc, ◌+◌, ◌-◌, ◌/◌, ◌%◌, ◌^◌, Bool, cond, not, List, [], ◌∷◌, ◌++◌, ◌==◌, slice_index}
+use Rattle.std.specs.Prelude.{ℕ, zero, suc, ◌+◌, ◌-◌, ◌/◌, ◌%◌, ◌^◌, Bool, cond, not, List, [], ◌∷◌, ◌++◌, ◌==◌, slice_index, Option, Some, None}
+use Rattle.rules.specs.declared.Slot.{Slot}
 use Rattle.rules.specs.declared.ProcState.{ProcState}
 use Rattle.rules.specs.declared.ProcState.TheVariants.{UNUSED, ALLOCATED, RUNNABLE, RUNNING, SLEEPING, ZOMBIE}
-use Rattle.rules.specs.declared.Parent.{Parent}
-use Rattle.rules.specs.declared.Parent.TheVariants.{Nobody, Of}
-use Rattle.rules.specs.declared.Member.{Member}
-use Rattle.rules.specs.declared.Member.TheVariants.{Alone, In}
 use Rattle.rules.specs.declared.ProcMeta.{ProcMeta}
 use Rattle.rules.specs.declared.Kin.{Kin}
 use Rattle.rules.specs.declared.Start.{Start}
@@ -34,11 +31,11 @@ state_of n = cond (n == 1) ALLOCATED (cond (n == 2) RUNNABLE (cond (n == 3) RUNN
 abbrev pub flag_of : ℕ → Bool
 flag_of n = not (n == 0)
 
-abbrev pub parent_of : ℕ → Parent
-parent_of n = cond (n == 0) Nobody (Of (slot ((n - 1) % slot_count)))
+abbrev pub parent_of : ℕ → Option Slot
+parent_of n = cond (n == 0) None (Some (slot ((n - 1) % slot_count)))
 
-abbrev pub member_of : ℕ → Member
-member_of n = cond (n == 0) Alone (In ((n - 1) % group_count))
+abbrev pub member_of : ℕ → Option ℕ
+member_of n = cond (n == 0) None (Some ((n - 1) % group_count))
 
 -- eight bytes, the lowest first
 unfoldable pub bytes_of : ℕ → List ℕ
@@ -48,13 +45,13 @@ bytes_of n = tab 8 (λ i. n / 256 ^ i % 256)
 abbrev pub flag_word : Bool → ℕ
 flag_word b = cond b 1 0
 
-abbrev pub parent_word : Parent → ℕ
-parent_word Nobody = 0
-parent_word (Of s) = s.0 + 1
+abbrev pub parent_word : Option Slot → ℕ
+parent_word None = 0
+parent_word (Some s) = s.0 + 1
 
-abbrev pub member_word : Member → ℕ
-member_word Alone = 0
-member_word (In g) = g + 1
+abbrev pub member_word : Option ℕ → ℕ
+member_word None = 0
+member_word (Some g) = g + 1
 
 -- ---- one slot
 -- the words of slot s, one for each column
@@ -122,7 +119,7 @@ run_queue = record { head = head_cell; tail = tail_cell; places = place_column }
 unfoldable pub slots_of : List ℕ → List Process
 slots_of w = tab slot_count (λ s. process_of (row_of w s))
 
-unfoldable pub harts_of : List ℕ → List Parent
+unfoldable pub harts_of : List ℕ → List (Option Slot)
 harts_of w = tab hart_count (λ h. parent_of (cell w (hart_cell h)))
 
 abbrev pub group_of : List ℕ → ℕ → Group

@@ -8,7 +8,7 @@ ghost use Rattle.words.specs.Reading.{table_of, InTable};
 ghost use Rattle.words.specs.Effects.{on_books, with_hart, with_init, with_pids, recount};
 
 use crate::{Table, get, get_cell, put, put_cell, slot, word};
-use rules::{Group, Parent};
+use rules::{Group, Slot};
 
 const SIZE_COLUMN: usize = slot::COLUMNS;
 
@@ -51,27 +51,27 @@ pub fn set_group(t: &mut [u64; Table::WORDS], g: usize, group: Group)
     set_count(t, g, group.count);
 }
 
-pub fn hart_at(t: &[u64; Table::WORDS], hart: usize) -> Parent
+pub fn hart_at(t: &[u64; Table::WORDS], hart: usize) -> Option<Slot>
     requires { hart < hart_count }
     ensures { (result ≡ hart_at (table_of t.now).core hart) × InTable result }
 {
     word::parent_of(get_cell(t, FIRST_HART + hart))
 }
 
-pub fn set_hart(t: &mut [u64; Table::WORDS], hart: usize, p: Parent)
+pub fn set_hart(t: &mut [u64; Table::WORDS], hart: usize, p: Option<Slot>)
     requires { (hart < hart_count) × InTable p }
     ensures { table_of t.new ≡ on_core (with_hart hart p) (table_of t.old) }
 {
     put_cell(t, FIRST_HART + hart, word::parent_word(p));
 }
 
-pub fn init(t: &[u64; Table::WORDS]) -> Parent
+pub fn init(t: &[u64; Table::WORDS]) -> Option<Slot>
     ensures { (result ≡ (table_of t.now).books.init) × InTable result }
 {
     word::parent_of(get_cell(t, INIT_CELL))
 }
 
-pub fn set_init(t: &mut [u64; Table::WORDS], p: Parent)
+pub fn set_init(t: &mut [u64; Table::WORDS], p: Option<Slot>)
     requires { InTable p }
     ensures { table_of t.new ≡ on_books (with_init p) (table_of t.old) }
 {

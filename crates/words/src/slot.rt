@@ -8,7 +8,7 @@ ghost use Rattle.words.specs.Reading.{table_of, start_of, InTable, InGroups};
 ghost use Rattle.words.specs.Effects.{with_state, with_channel, with_killed, with_xstate, with_pid, with_queued, with_meta, with_kin, with_start};
 
 use crate::{Table, get, put, word};
-use rules::{Kin, Parent, Pid, ProcMeta, ProcState};
+use rules::{Kin, Pid, ProcMeta, ProcState, Slot};
 
 // The columns of a slot, in the order of specs/Layout.
 const STATE_COLUMN: usize = 0;
@@ -126,14 +126,14 @@ pub fn set_queued(t: &mut [u64; Table::WORDS], s: usize, queued: bool)
     put(t, QUEUED_COLUMN, s, word::flag_word(queued));
 }
 
-pub fn parent_at(t: &[u64; Table::WORDS], s: usize) -> Parent
+pub fn parent_at(t: &[u64; Table::WORDS], s: usize) -> Option<Slot>
     requires { s < slot_count }
     ensures { (result ≡ (at (table_of t.now).core s).kin.parent) × InTable result }
 {
     word::parent_of(get(t, PARENT_COLUMN, s))
 }
 
-pub fn set_parent(t: &mut [u64; Table::WORDS], s: usize, parent: Parent)
+pub fn set_parent(t: &mut [u64; Table::WORDS], s: usize, parent: Option<Slot>)
     requires { (s < slot_count) × InTable parent }
     ensures { table_of t.new ≡ on_core (change (with_parent parent) s) (table_of t.old) }
 {

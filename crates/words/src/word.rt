@@ -4,7 +4,7 @@ ghost use Rattle.rules.specs.Model.{state_code};
 ghost use Rattle.words.specs.Reading.{state_of, flag_of, parent_of, member_of, flag_word, parent_word, member_word, InTable, InGroups};
 
 use crate::Table;
-use rules::{Member, Parent, ProcState, Slot};
+use rules::{ProcState, Slot};
 
 pub fn state_code(s: ProcState) -> u64
     ensures { (result ≡ state_code s) × (state_of result ≡ s) }
@@ -44,40 +44,40 @@ pub fn flag_word(b: bool) -> u64
     if b { 1 } else { 0 }
 }
 
-pub fn parent_of(n: u64) -> Parent
+pub fn parent_of(n: u64) -> Option<Slot>
     ensures { (result ≡ parent_of n) × InTable result }
 {
     if n == 0 {
-        return Parent::Nobody;
+        return None;
     }
-    Parent::Of(Slot(((n - 1) % (Table::SLOTS as u64)) as usize))
+    Some(Slot(((n - 1) % (Table::SLOTS as u64)) as usize))
 }
 
-pub fn parent_word(p: Parent) -> u64
+pub fn parent_word(p: Option<Slot>) -> u64
     requires { InTable p }
     ensures { result ≡ parent_word p }
 {
     match p {
-        Parent::Nobody => 0,
-        Parent::Of(s) => (s.0 as u64) + 1,
+        None => 0,
+        Some(s) => (s.0 as u64) + 1,
     }
 }
 
-pub fn member_of(n: u64) -> Member
+pub fn member_of(n: u64) -> Option<usize>
     ensures { (result ≡ member_of n) × InGroups result }
 {
     if n == 0 {
-        return Member::Alone;
+        return None;
     }
-    Member::In(((n - 1) % (Table::SLOTS as u64)) as usize)
+    Some(((n - 1) % (Table::SLOTS as u64)) as usize)
 }
 
-pub fn member_word(m: Member) -> u64
+pub fn member_word(m: Option<usize>) -> u64
     requires { InGroups m }
     ensures { result ≡ member_word m }
 {
     match m {
-        Member::Alone => 0,
-        Member::In(g) => (g as u64) + 1,
+        None => 0,
+        Some(g) => (g as u64) + 1,
     }
 }

@@ -14,14 +14,14 @@ returns-then-name-gt-NAME_SIZE c =
 
 pub spawn_in-requires : goal.spawn_in-requires
 spawn_in-requires c =
-    ((subst InSlots c.in-Is.is c.alloc_proc.ensures.2), taken-room (table_of c.args.t.now) c.requires (subst InSlots c.in-Is.is c.alloc_proc.ensures.2) (sym c.in-Is.is ∙ c.alloc_proc.ensures.0) c.alloc_proc.ensures.1)
+    ((subst InSlots c.in-Ok.is c.alloc_proc.ensures.2), taken-room (table_of c.args.t.now) c.requires (subst InSlots c.in-Ok.is c.alloc_proc.ensures.2) (sym c.in-Ok.is ∙ c.alloc_proc.ensures.0) c.alloc_proc.ensures.1)
 
-pub returns-in-No : goal.returns-in-No
+pub returns-in-Err : goal.returns-in-Err
 unfolding name_size
-returns-in-No c =
-    did c.requires (spawn-no (table_of c.args.t.now) c.args.name.now _ (omega arith) (sym c.in-No.is ∙ c.alloc_proc.ensures.0) c.alloc_proc.ensures.1)
+returns-in-Err c =
+    did c.requires (spawn-no (table_of c.args.t.now) c.args.name.now _ (omega arith) (sym c.in-Err.is ∙ c.alloc_proc.ensures.0) c.alloc_proc.ensures.1)
 
-pub returns-in-Is : goal.returns-in-Is
+pub returns-in-Ok : goal.returns-in-Ok
 unfolding name_size
-returns-in-Is c =
-    did c.requires (spawn-is (table_of c.args.t.now) c.args.name.now _ (omega arith) (sym c.in-Is.is ∙ c.alloc_proc.ensures.0) c.alloc_proc.ensures.1 c.spawn_in.ensures)
+returns-in-Ok c =
+    did c.requires (spawn-is (table_of c.args.t.now) c.args.name.now _ (omega arith) (sym c.in-Ok.is ∙ c.alloc_proc.ensures.0) c.alloc_proc.ensures.1 c.spawn_in.ensures)

@@ -1,3 +1,4 @@
+use Rattle.std.specs.Prelude.{None}
 use Rattle.desk.proofs.DeskLaws.{said-is, desk-room, answer-room, nothing_said, call-made, list-made, show-made, fresh-made, why-said}
 use Rattle.lines.specs.declared.Said.TheVariants.{Nothing, Call, Spawn, List, Show, Fresh, Misread}
 use Rattle.lines.specs.Meaning.{means}

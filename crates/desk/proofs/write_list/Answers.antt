@@ -7,10 +7,10 @@ pub write_listing-requires : goal.write_listing-requires
 write_listing-requires c =
     list-room (table_of c.args.t.now) c.requires.0 c.args.out.now c.args.at c.requires.1
 
-pub returns-in-Fits : goal.returns-in-Fits
-returns-in-Fits c =
-    list-fits (table_of c.args.t.now) c.requires.0 c.args.room (sym c.in-Fits.is ∙ c.room_for.ensures) c.write_listing.ensures
+pub returns-in-Ok : goal.returns-in-Ok
+returns-in-Ok c =
+    list-fits (table_of c.args.t.now) c.requires.0 c.args.room (sym c.in-Ok.is ∙ c.room_for.ensures) c.write_listing.ensures
 
-pub returns-in-Short : goal.returns-in-Short
-returns-in-Short c =
-    list-short (table_of c.args.t.now) c.requires.0 c.args.room (sym c.in-Short.is ∙ c.room_for.ensures) c.write_answer.ensures.0 c.write_answer.ensures.1
+pub returns-in-Err : goal.returns-in-Err
+returns-in-Err c =
+    list-short (table_of c.args.t.now) c.requires.0 c.args.room (sym c.in-Err.is ∙ c.room_for.ensures) c.write_answer.ensures.0 c.write_answer.ensures.1

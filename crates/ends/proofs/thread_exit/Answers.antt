@@ -7,12 +7,12 @@ use Rattle.ends.proofs.thread_exit.Goals as goal
 
 pub thread_exit_by-requires : goal.thread_exit_by-requires
 thread_exit_by-requires c =
-    let k = subst (InHart _) c.in-Is.is c.caller_on-c.ensures.1 in (k.1, k.0, c.requires)
+    let k = subst (InHart _) c.in-Ok.is c.caller_on-c.ensures.1 in (k.1, k.0, c.requires)
 
-pub returns-in-No : goal.returns-in-No
-returns-in-No c =
-    did c.requires (thread-exit-no (table_of c.args.t.now) _ _ _ (sym c.in-No.is ∙ c.caller_on-c.ensures.0))
+pub returns-in-Err : goal.returns-in-Err
+returns-in-Err c =
+    did c.requires (thread-exit-no (table_of c.args.t.now) _ _ _ (sym c.in-Err.is ∙ c.caller_on-c.ensures.0))
 
-pub returns-in-Is : goal.returns-in-Is
-returns-in-Is c =
-    did c.requires (thread-exit-is (table_of c.args.t.now) _ _ (sym c.in-Is.is ∙ c.caller_on-c.ensures.0) c.thread_exit_by.ensures)
+pub returns-in-Ok : goal.returns-in-Ok
+returns-in-Ok c =
+    did c.requires (thread-exit-is (table_of c.args.t.now) _ _ (sym c.in-Ok.is ∙ c.caller_on-c.ensures.0) c.thread_exit_by.ensures)

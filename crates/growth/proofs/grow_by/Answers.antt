@@ -10,7 +10,7 @@ returns-in_default c =
 
 pub group_at-space-requires : goal.group_at-space-requires
 group_at-space-requires c =
-    subst InGroups c.in-In.is c.kin_at-k.ensures.1
+    subst InGroups c.in-Some.is c.kin_at-k.ensures.1
 
 pub new_size-requires : goal.new_size-requires
 new_size-requires c =
@@ -18,16 +18,16 @@ new_size-requires c =
 
 pub returns-in_default-new_size : goal.returns-in_default-new_size
 returns-in_default-new_size c =
-    by_out (table_of c.args.t.now) c.args.count c.args.memory c.args.caller (to_z-of_z c.ranges.count) (sym c.in-In.is ∙ ap (λ (k : Kin). k.group) c.kin_at-k.ensures.0) c.group_at-space.ensures c.new_size.result c.new_size.ensures (cc)
+    by_out (table_of c.args.t.now) c.args.count c.args.memory c.args.caller (to_z-of_z c.ranges.count) (sym c.in-Some.is ∙ ap (λ (k : Kin). k.group) c.kin_at-k.ensures.0) c.group_at-space.ensures c.new_size.result c.new_size.ensures (cc)
 
 pub returns-then-no_memory : goal.returns-then-no_memory
 returns-then-no_memory c =
-    by-no-memory (table_of c.args.t.now) c.args.count c.args.memory c.args.caller (to_z-of_z c.ranges.count) (sym c.in-In.is ∙ ap (λ (k : Kin). k.group) c.kin_at-k.ensures.0) c.group_at-space.ensures c.new_size.result c.new_size.ensures (sym c.in-To.is) c.no_memory.ensures c.if-no_memory.true
+    by-no-memory (table_of c.args.t.now) c.args.count c.args.memory c.args.caller (to_z-of_z c.ranges.count) (sym c.in-Some.is ∙ ap (λ (k : Kin). k.group) c.kin_at-k.ensures.0) c.group_at-space.ensures c.new_size.result c.new_size.ensures (sym c.in-Some-new_size.is) c.no_memory.ensures c.if-no_memory.true
 
 pub set_size-requires : goal.set_size-requires
 set_size-requires c =
-    subst InGroups c.in-In.is c.kin_at-k.ensures.1
+    subst InGroups c.in-Some.is c.kin_at-k.ensures.1
 
 pub returns : goal.returns
 returns c =
-    by-done (table_of c.args.t.now) c.args.count c.args.memory c.args.caller (to_z-of_z c.ranges.count) (sym c.in-In.is ∙ ap (λ (k : Kin). k.group) c.kin_at-k.ensures.0) c.group_at-space.ensures c.new_size.result c.new_size.ensures (sym c.in-To.is) c.no_memory.ensures c.if-no_memory.false c.set_size.ensures
+    by-done (table_of c.args.t.now) c.args.count c.args.memory c.args.caller (to_z-of_z c.ranges.count) (sym c.in-Some.is ∙ ap (λ (k : Kin). k.group) c.kin_at-k.ensures.0) c.group_at-space.ensures c.new_size.result c.new_size.ensures (sym c.in-Some-new_size.is) c.no_memory.ensures c.if-no_memory.false c.set_size.ensures

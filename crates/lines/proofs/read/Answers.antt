@@ -1,5 +1,5 @@
+use Rattle.std.specs.Prelude.{Ok, Err}
 use Rattle.lines.proofs.MeaningLaws.{told-by, name-there, told-all, told-not, empty-passed, hash-passed, cut-first, no-command, a-command}
-use Rattle.lines.specs.declared.arguments.Args.TheVariants.{All, Not}
 use Rattle.std.proofs.Common.{◌∙◌, arith}
 use Rattle.lines.proofs.ArgumentLaws.{cut-length}
 use Rattle.lines.proofs.read.Goals as goal
@@ -18,12 +18,12 @@ returns-then-k-ge-COMMANDS c =
 
 pub command-requires : goal.command-requires
 command-requires c =
-    (c.next-c.ensures.ends, omega (arith, c.read.auto.w), c.requires, name-there _ _ _ _ (told-by _ _ _ c.read.result All (cc) c.read.ensures))
+    (c.next-c.ensures.ends, omega (arith, c.read.auto.w), c.requires, name-there _ _ _ _ (told-by _ _ _ c.read.result (Ok tt) c.in-Ok.is c.read.ensures))
 
-pub returns-in-All : goal.returns-in-All
-returns-in-All c =
-    c.command.ensures ∙ told-all _ _ _ _ (told-by _ _ _ c.read.result All (cc) c.read.ensures) ∙ a-command c.next-c.ensures c.find-k.ensures c.if-from-to.false c.if-line-from-eq35.false c.if-k-ge-COMMANDS.false
+pub returns-in-Ok : goal.returns-in-Ok
+returns-in-Ok c =
+    c.command.ensures ∙ told-all _ _ _ _ (told-by _ _ _ c.read.result (Ok tt) c.in-Ok.is c.read.ensures) ∙ a-command c.next-c.ensures c.find-k.ensures c.if-from-to.false c.if-line-from-eq35.false c.if-k-ge-COMMANDS.false
 
-pub returns-in-Not : goal.returns-in-Not
-returns-in-Not c =
-    told-not _ _ _ _ _ (told-by _ _ _ c.read.result (Not _) c.in-Not.is c.read.ensures) ∙ a-command c.next-c.ensures c.find-k.ensures c.if-from-to.false c.if-line-from-eq35.false c.if-k-ge-COMMANDS.false
+pub returns-in-Err : goal.returns-in-Err
+returns-in-Err c =
+    told-not _ _ _ _ _ (told-by _ _ _ c.read.result (Err _) c.in-Err.is c.read.ensures) ∙ a-command c.next-c.ensures c.find-k.ensures c.if-from-to.false c.if-line-from-eq35.false c.if-k-ge-COMMANDS.false

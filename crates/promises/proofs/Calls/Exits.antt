@@ -1,9 +1,9 @@
 -- The three ways in which a caller that ends stops RUNNING, as chains of moves.
-use Rattle.std.specs.Prelude.{ℕ, ◌≡◌, refl, ◌≢◌, Bool, false, List, get_or}
+use Rattle.std.specs.Prelude.{ℕ, ◌≡◌, refl, ◌≢◌, Bool, false, List, get_or, Option, Some, None}
 use Rattle.std.proofs.Math.Path.{ap}
 use Rattle.std.proofs.Common.{◌∙◌, eqb-true}
 use Rattle.std.proofs.Math.Bool.{true}
-use Rattle.promises.specs.Types.{UNUSED, ZOMBIE, Parent, Nobody, Of, Process, Kin}
+use Rattle.promises.specs.Types.{UNUSED, ZOMBIE, Process, Kin, Slot}
 use Rattle.rules.specs.Sizes.{own_channel}
 use Rattle.rules.specs.Model.{Table, at, free, is, is_slot, slot}
 use Rattle.rules.specs.Moves.{sleep_on, zombie_on, sleeps_on, wake, wake_of, slay, reparent}
@@ -25,15 +25,15 @@ thread-used t w i e = go (is UNUSED (at t.core i)) refl
     go false u = u
 
 -- after a wake of a slot's own channel that slot does not sleep on it
-wake_of-empties : (p : Parent) (t : Table) → Sound t → (q : ℕ) → is_slot q p ≡ true → sleeps_on (own_channel q) (at (wake_of p t.core) q) ≡ false
+wake_of-empties : (p : Option Slot) (t : Table) → Sound t → (q : ℕ) → is_slot q p ≡ true → sleeps_on (own_channel q) (at (wake_of p t.core) q) ≡ false
 unfolding wake_of
-wake_of-empties Nobody t w q e = absurd (clash {b = false} e refl)
-wake_of-empties (Of x) t w q e = rw (eqb-true q x.0 e) (wake-empties (own_channel x.0) t.core w.queued.tall x.0)
+wake_of-empties None t w q e = absurd (clash {b = false} e refl)
+wake_of-empties (Some x) t w q e = rw (eqb-true q x.0 e) (wake-empties (own_channel x.0) t.core w.queued.tall x.0)
 
 module _ (t : Table) (w : Sound t) (h s : ℕ) (e : runs t h s) where
   -- with the harts as they were the caller still runs
-  on-hart : {l : List Parent} → l ≡ t.core.harts → get_or l h Nobody ≡ Of (slot s)
-  on-hart f = ap (λ (l : List Parent). get_or l h Nobody) f ∙ e
+  on-hart : {l : List (Option Slot)} → l ≡ t.core.harts → get_or l h None ≡ Some (slot s)
+  on-hart f = ap (λ (l : List (Option Slot)). get_or l h None) f ∙ e
 
   -- a live thread i of the caller's group is marked, and the caller sleeps on it
   pub blocked-chain : (i : ℕ) → (at t.core s).kin.thread ≡ false → thread_of (at t.core s).kin.group (at t.core i) ≡ true → is ZOMBIE (at t.core i) ≡ false
@@ -74,7 +74,7 @@ module _ (t : Table) (w : Sound t) (h s : ℕ) (e : runs t h s) where
   unfolding orphans on_core
   same-system k f = ap (λ (x : Kin). x.system) f ∙ (reparent-steady t.books.init s t.core).system s
 
-  same-harts : (l : List Parent) → l ≡ orphans.core.harts → get_or l h Nobody ≡ Of (slot s)
+  same-harts : (l : List (Option Slot)) → l ≡ orphans.core.harts → get_or l h None ≡ Some (slot s)
   unfolding orphans on_core
   same-harts l f = on-hart (f ∙ (reparent-steady t.books.init s t.core).harts)
 
@@ -83,7 +83,7 @@ module _ (t : Table) (w : Sound t) (h s : ℕ) (e : runs t h s) where
   unfolding on_core departing orphans
   leader-chain x y v n = and_then (chained hand-over (wake_of-chain orphans parent sound)) (dying h s x (same-harts _ (wake_of-harts parent orphans.core)) bye)
     where
-      parent : Parent
+      parent : Option Slot
       parent = (at orphans.core s).kin.parent
 
       sound : Sound orphans

@@ -1,13 +1,12 @@
 -- Each call on a sound table is refused as document 01's table and order have it.
-use Rattle.std.specs.Prelude.{ℕ, ◌<◌, ◌≢◌, Bool, ◌&&◌, length, ℤ, pos, negsuc}
+use Rattle.std.specs.Prelude.{ℕ, ◌<◌, ◌≢◌, Bool, ◌&&◌, length, ℤ, pos, negsuc, Option, Some, None}
 use Rattle.std.proofs.Common.{arith, ◌∙◌}
 use Rattle.std.proofs.Math.Path.{◌≡◌, refl, sym, ap}
 use Rattle.std.proofs.Math.Bool.{true, false, not, cond}
 use mathlib.Core.List.{List, [], ◌∷◌}
-use Rattle.std.proofs.Math.Option.{Option, none, some}
 use Rattle.std.proofs.Math.Dec.{eqb, leb, ltb, eqb-suc-zero}
 use borrow.Author.Tests.{eqb-true, eq-eqb, ne_eqb, leb-true, leb-false, lt-ltb, le-ltb}
-use Rattle.promises.specs.Types.{Pid, UNUSED, ZOMBIE, Parent, Nobody, Of, Member, In, Process, Wish, ThreadAsk, Mapped, NoSuchHart, HartBusy, NoneSuch, StatusUnwritable, InitOutOfTurn, WrongWayOut, NotADevice, NameTooLong, NoMemory, BadAddress, Unmapped, SizeOutOfLimits}
+use Rattle.promises.specs.Types.{Pid, UNUSED, ZOMBIE, Process, Wish, ThreadAsk, Mapped, NoSuchHart, HartBusy, NoneSuch, StatusUnwritable, InitOutOfTurn, WrongWayOut, NotADevice, NameTooLong, NoMemory, BadAddress, Unmapped, SizeOutOfLimits, Slot}
 use Rattle.rules.specs.Sizes.{hart_count, pid_top, size_top}
 use Rattle.rules.specs.Answers.{number_of}
 use Rattle.rules.specs.Model.{Table, at, hart_at, group_at, free, is, known}
@@ -43,9 +42,9 @@ module _ (t : Table) (w : Sound t) where
   unfolding Right started started_at moves gives refuse number_of lines_of order due first_of
   started-when = go t.books.init refl
     where
-      go : (p : Parent) → t.books.init ≡ p → Right t start (started_at t p)
-      go Nobody e = rw e refl
-      go (Of s) e = refuse_if-any (Right t start) _ InitOutOfTurn t _ (λ a. rw (e, a) refl) λ a. rw (e, a) refl
+      go : (p : Option Slot) → t.books.init ≡ p → Right t start (started_at t p)
+      go None e = rw e refl
+      go (Some s) e = refuse_if-any (Right t start) _ InitOutOfTurn t _ (λ a. rw (e, a) refl) λ a. rw (e, a) refl
 
   spawned-when : (name : List ℕ) (entry : ℕ) → Right t (spawn name entry) (spawned t name entry)
   unfolding Right spawned spawned_in made_in gives refuse number_of lines_of order due first_of
@@ -125,7 +124,7 @@ module _ (t : Table) (w : Sound t) where
   killed-when p = found-any (Right t (kill p)) NoneSuch t _ _ (λ o. rw (scan-none t (has_pid p) o) refl) λ i o. rw (scan-some t (has_pid p) i o) refl
 
   -- ---- wait
-  zombie-is-child : (s i : ℕ) → lowest (zombie_child_of s) t.core.slots ≡ some i → childless t s ≡ false
+  zombie-is-child : (s i : ℕ) → lowest (zombie_child_of s) t.core.slots ≡ Some i → childless t s ≡ false
   unfolding childless zombie_child_of child_of
   zombie-is-child s i o = ap not (some-yes t (λ _. child_of s) i (lowest-range (zombie_child_of s) t.core.slots free i o)
       (and_right (is ZOMBIE (at t.core i)) (child_of s (at t.core i)) (lowest-passes (zombie_child_of s) t.core.slots free i o)))
@@ -139,17 +138,17 @@ module _ (t : Table) (w : Sound t) where
   waited-when h x = on_hart-any (Right t (wait h x)) t h _ (λ a. rw a refl) (λ a e. rw (a, e) refl) λ s a e. go s a e (lowest (zombie_child_of s) t.core.slots) refl
     where
       go : (s : ℕ) → leb hart_count h ≡ false → runs t h s → (o : Option ℕ) → lowest (zombie_child_of s) t.core.slots ≡ o → Right t (wait h x) (waited_for t h x s o)
-      go s a e (some i) o = let z = zombie-is-child s i o in let y = scan-some t (zombie_child_of s) i o in
+      go s a e (Some i) o = let z = zombie-is-child s i o in let y = scan-some t (zombie_child_of s) i o in
           refuse_if-any (Right t (wait h x)) _ StatusUnwritable t _ (λ b. rw (a, e, z, y, and_no _ refl, b) refl) λ b. rw (a, e, z, y, and_no _ refl, b) refl
-      go s a e none o = let z = childless-scan s in let y = scan-none t (zombie_child_of s) o in let k = and_yes (at t.core s).meta.killed {b = true} refl in
+      go s a e None o = let z = childless-scan s in let y = scan-none t (zombie_child_of s) o in let k = and_yes (at t.core s).meta.killed {b = true} refl in
           refuse_if-any (Right t (wait h x)) _ NoneSuch t _ (λ b. rw (a, e, y, z, k, b) refl) λ b. rw (a, e, y, z, k, b) refl
 
   -- ---- join: a pid is one slot's, so no thread but the named one passes, and the caller's own pid is no other slot's
-  named-pid : (p : Pid) (m : Member) (i : ℕ) → thread_named p m (at t.core i) ≡ true → (at t.core i).meta.pid.0 ≡ p.0
+  named-pid : (p : Pid) (m : Option ℕ) (i : ℕ) → thread_named p m (at t.core i) ≡ true → (at t.core i).meta.pid.0 ≡ p.0
   unfolding thread_named
   named-pid p m i e = eqb-true _ p.0 (and_right (thread_of m (at t.core i)) _ e)
 
-  named-used : (p : Pid) (m : Member) (i : ℕ) → thread_named p m (at t.core i) ≡ true → is UNUSED (at t.core i) ≡ false
+  named-used : (p : Pid) (m : Option ℕ) (i : ℕ) → thread_named p m (at t.core i) ≡ true → is UNUSED (at t.core i) ≡ false
   unfolding thread_named thread_of
   named-used p m i e = thread-used t w i (and_left _ _ (and_left _ _ e))
 
@@ -177,15 +176,15 @@ module _ (t : Table) (w : Sound t) where
       in_group-any (Right t (join h p x)) t s _ (λ m. rw (a, e, m) refl) λ g m.
       refuse_if-any (Right t (join h p x)) _ NoneSuch t _ (λ own. rw (a, e, elsewhere-no s p (λ _. true) (own_alone s e own), m) refl) λ own.
       found-any (Right t (join h p x)) NoneSuch t _ _ (λ o. rw (a, e, elsewhere-no s p (λ _. true) (found-nobody s g m o), m) refl) λ i o.
-      go s a e g m own i (lowest-range (thread_named p (In g)) t.core.slots free i o) (rw m (lowest-passes (thread_named p (In g)) t.core.slots free i o)) (is ZOMBIE (at t.core i)) refl
+      go s a e g m own i (lowest-range (thread_named p (Some g)) t.core.slots free i o) (rw m (lowest-passes (thread_named p (Some g)) t.core.slots free i o)) (is ZOMBIE (at t.core i)) refl
     where
       own_alone : (s : ℕ) → runs t h s → eqb (at t.core s).meta.pid.0 p.0 ≡ true → (i : ℕ) → i ≢ s → thread_named p (at t.core s).kin.group (at t.core i) ≡ true → true ≡ true → ⊥
       own_alone s e own i n f _ =
           n (w.numbered.once i s (named-used p _ i f) (runs-used h s t.core w.queued e) (named-pid p _ i f ∙ sym (eqb-true _ p.0 own)))
 
-      found-nobody : (s g : ℕ) → (at t.core s).kin.group ≡ In g → lowest (thread_named p (In g)) t.core.slots ≡ none
+      found-nobody : (s g : ℕ) → (at t.core s).kin.group ≡ Some g → lowest (thread_named p (Some g)) t.core.slots ≡ None
           → (i : ℕ) → i ≢ s → thread_named p (at t.core s).kin.group (at t.core i) ≡ true → true ≡ true → ⊥
-      found-nobody s g m o i n f _ = clash f (rw m (lowest-none (thread_named p (In g)) t.core.slots free o i (used-range t.core.slots i (named-used p _ i f))))
+      found-nobody s g m o i n f _ = clash f (rw m (lowest-none (thread_named p (Some g)) t.core.slots free o i (used-range t.core.slots i (named-used p _ i f))))
 
       apart : (s i : ℕ) → eqb (at t.core s).meta.pid.0 p.0 ≡ false → thread_named p (at t.core s).kin.group (at t.core i) ≡ true → i ≢ s
       apart s i own f same = clash (eq-eqb _ p.0 (rw same at (named-pid p _ i f))) own
@@ -196,7 +195,7 @@ module _ (t : Table) (w : Sound t) where
           let same : j ≡ i = w.numbered.once j i (named-used p _ j k) (named-used p _ i f) (named-pid p _ j k ∙ sym (named-pid p _ i f)) in
           clash y (rw same z)
 
-      go : (s : ℕ) → leb hart_count h ≡ false → runs t h s → (g : ℕ) → (at t.core s).kin.group ≡ In g → eqb (at t.core s).meta.pid.0 p.0 ≡ false → (i : ℕ) → i < length t.core.slots
+      go : (s : ℕ) → leb hart_count h ≡ false → runs t h s → (g : ℕ) → (at t.core s).kin.group ≡ Some g → eqb (at t.core s).meta.pid.0 p.0 ≡ false → (i : ℕ) → i < length t.core.slots
           → thread_named p (at t.core s).kin.group (at t.core i) ≡ true → (b : Bool) → is ZOMBIE (at t.core i) ≡ b → Right t (join h p x) (joined_to t h x s i)
       go s a e g m own i r f true z = let there = elsewhere-yes s i p (λ _. true) (apart s i own f) r f refl in let dead = elsewhere-yes s i p (is ZOMBIE) (apart s i own f) r f z in
           rw z (refuse_if-any (Right t (join h p x)) _ StatusUnwritable t _ (λ b. rw (a, e, there, dead, m, b) refl) λ b. rw (a, e, there, dead, m, b) refl)
@@ -204,13 +203,13 @@ module _ (t : Table) (w : Sound t) where
           rw (z, a, e, there, live, m) refl
 
   -- ---- the ways out
-  leader_exited-answers : (h x s : ℕ) → refusal_of (leader_exited t h x s).answer ≡ none
+  leader_exited-answers : (h x s : ℕ) → refusal_of (leader_exited t h x s).answer ≡ None
   unfolding leader_exited exited_past moves gives
   leader_exited-answers h x s = go (reap_threads (at t.core s).kin.group t) (lowest (thread_of (at t.core s).kin.group) (reap_threads (at t.core s).kin.group t).core.slots)
     where
-      go : (u : Table) (o : Option ℕ) → refusal_of (exited_past u h x s o).answer ≡ none
-      go u none = refl
-      go u (some i) = refl
+      go : (u : Table) (o : Option ℕ) → refusal_of (exited_past u h x s o).answer ≡ None
+      go u None = refl
+      go u (Some i) = refl
 
   exited-when : (h x : ℕ) → Right t (exit h x) (exited t h x)
   unfolding Right exited exited_by refuse gives number_of lines_of order due first_of
@@ -224,25 +223,25 @@ module _ (t : Table) (w : Sound t) where
       on_hart-any (Right t (thread_exit h x)) t h _ (λ a. rw a refl) (λ a e. rw (a, e) refl) λ s a e.
       refuse_if-any (Right t (thread_exit h x)) _ WrongWayOut t _ (λ b. rw (a, e, b) refl) λ b. rw (a, e, b) (go s (at t.core s).kin.thread)
     where
-      go : (s : ℕ) (b : Bool) → refusal_of (cond b (thread_ended t h x s) (leader_exited t h x s)).answer ≡ none
+      go : (s : ℕ) (b : Bool) → refusal_of (cond b (thread_ended t h x s) (leader_exited t h x s)).answer ≡ None
       go s true = refl
       go s false = leader_exited-answers h x s
 
   -- ---- grow
-  within_none : (d : ℤ) → within d ≡ none → outside d ≡ true
+  within_none : (d : ℤ) → within d ≡ None → outside d ≡ true
   unfolding within
   within_none (pos n) o = go (leb n size_top) refl o
     where
-      go : (b : Bool) → leb n size_top ≡ b → cond b (some n) none ≡ none → ltb size_top n ≡ true
+      go : (b : Bool) → leb n size_top ≡ b → cond b (Some n) None ≡ None → ltb size_top n ≡ true
       go true e f = let z : ◌≡◌ {A = ℕ} 0 1 = cc in absurd (omega arith)
       go false e f = lt-ltb size_top n (leb-false n size_top e)
   within_none (negsuc n) o = refl
 
-  within-some : (d : ℤ) (n : ℕ) → within d ≡ some n → outside d ≡ false
+  within-some : (d : ℤ) (n : ℕ) → within d ≡ Some n → outside d ≡ false
   unfolding within
   within-some (pos k) n o = go (leb k size_top) refl o
     where
-      go : (b : Bool) → leb k size_top ≡ b → cond b (some k) none ≡ some n → ltb size_top k ≡ false
+      go : (b : Bool) → leb k size_top ≡ b → cond b (Some k) None ≡ Some n → ltb size_top k ≡ false
       go true e f = le-ltb size_top k (leb-true k size_top e)
       go false e f = let z : ◌≡◌ {A = ℕ} 0 1 = cc in absurd (omega arith)
   within-some (negsuc k) n o = let z : ◌≡◌ {A = ℕ} 0 1 = cc in absurd (omega arith)

@@ -1,13 +1,12 @@
 -- Every call on a sound table: refused as document 01's table has it, a dispatch, or a chain of allowed moves.
-use Rattle.std.specs.Prelude.{ℕ, ◌<◌, ◌≡◌, ◌≢◌, Bool, cond, ◌||◌, List, [], ◌∷◌, length, get_or, ℤ, leb}
+use Rattle.std.specs.Prelude.{ℕ, ◌<◌, ◌≡◌, ◌≢◌, Bool, cond, ◌||◌, List, [], ◌∷◌, length, get_or, ℤ, leb, Option, Some, None, Ok}
 use Rattle.std.proofs.Math.Path.{refl}
 use Rattle.std.proofs.Common.{ap, ◌∙◌, inl, leb-true, leb-false, ltb-false}
 use Rattle.std.proofs.Math.Bool.{true, false}
-use Rattle.std.proofs.Math.Option.{Option, none, some}
 use Rattle.std.proofs.Math.ListN.{get_or-eq_default}
 use Rattle.std.proofs.Math.Dec.{eqb}
 use Rattle.std.proofs.lemmas.Bool.{not-true, not-false}
-use Rattle.promises.specs.Types.{Pid, RUNNING, ZOMBIE, Parent, Nobody, Of, Member, In, Process, Wish, ThreadAsk, Mapped, NoSuchHart, HartIdle, HartBusy, QueueEmpty, TableFull, PidsSpent, NoGroup, BadAddress, Unmapped, NoneSuch, StatusUnwritable, InitOutOfTurn, WrongWayOut, NotADevice, NameTooLong, SizeOutOfLimits, NoMemory, Done, Blocked}
+use Rattle.promises.specs.Types.{Pid, RUNNING, ZOMBIE, Process, Wish, ThreadAsk, Mapped, NoSuchHart, HartIdle, HartBusy, QueueEmpty, TableFull, PidsSpent, NoGroup, BadAddress, Unmapped, NoneSuch, StatusUnwritable, InitOutOfTurn, WrongWayOut, NotADevice, NameTooLong, SizeOutOfLimits, NoMemory, Done, Blocked, Slot}
 use Rattle.rules.specs.Sizes.{hart_count, init_size, own_channel, first_device}
 use Rattle.rules.specs.Answers.{number_of}
 use Rattle.rules.specs.Model.{Table, at, hart_at, free, is, is_slot, known}
@@ -42,10 +41,10 @@ module _ (t : Table) (w : Sound t) where
   unfolding started started_at moves on_core spends_pid forks number_of
   started-ends = go t.books.init
     where
-      go : (p : Parent) → Ended start t (started_at t p)
-      go Nobody = refused InitOutOfTurn refl
-      go (Of s) = refuse_if-any (Ended start t) _ InitOutOfTurn t _ (λ _. refused InitOutOfTurn refl) λ e.
-          granted Done _ refl (one (publishing s.0 (inl (not-false _ e))))
+      go : (p : Option Slot) → Ended start t (started_at t p)
+      go None = refused InitOutOfTurn refl
+      go (Some s) = refuse_if-any (Ended start t) _ InitOutOfTurn t _ (λ _. refused InitOutOfTurn refl) λ e.
+          granted (Ok Done) _ refl (one (publishing s.0 (inl (not-false _ e))))
 
   spawned-ends : (name : List ℕ) (entry : ℕ) → Ended (spawn name entry) t (spawned t name entry)
   unfolding spawned spawned_in made_in system_in publish_new on_core spent spend spends_pid forks number_of
@@ -60,7 +59,7 @@ module _ (t : Table) (w : Sound t) where
   system_returned-ends h =
       on_hart-any (Ended (system_return h) t) t h _ (λ _. refused NoSuchHart refl) (λ _ _. refused HartIdle refl) λ s _ e.
       refuse_if-any (Ended (system_return h) t) _ WrongWayOut t _ (λ _. refused WrongWayOut refl) λ y.
-      granted Done _ (leave-pids _ _) (one (returning h s e (not-false _ y)))
+      granted (Ok Done) _ (leave-pids _ _) (one (returning h s e (not-false _ y)))
 
   -- ---- fork, thread creation
   forked-ends : (h : ℕ) (memory : Bool) → Ended (fork h memory) t (forked t h memory)
@@ -96,11 +95,11 @@ module _ (t : Table) (w : Sound t) where
       refuse_if-any (Ended (dispatch h) t) _ HartBusy t _ (λ _. refused HartBusy refl) λ b.
       go t.core.queue refl (leb-false hart_count h a) (idle-hart (hart_at t.core h) b)
     where
-      idle-hart : (p : Parent) → known p ≡ false → p ≡ Nobody
-      idle-hart Nobody e = refl
-      idle-hart (Of s) e = absurd (clash {b = true} refl e)
+      idle-hart : (p : Option Slot) → known p ≡ false → p ≡ None
+      idle-hart None e = refl
+      idle-hart (Some s) e = absurd (clash {b = true} refl e)
 
-      go : (q : List ℕ) → t.core.queue ≡ q → h < hart_count → hart_at t.core h ≡ Nobody → Ended (dispatch h) t (hand_next t h q)
+      go : (q : List ℕ) → t.core.queue ≡ q → h < hart_count → hart_at t.core h ≡ None → Ended (dispatch h) t (hand_next t h q)
       go [] e r i = refused QueueEmpty refl
       go (s ∷ rest) e r i = handed h s rest refl e r i
 
@@ -108,30 +107,30 @@ module _ (t : Table) (w : Sound t) where
   unfolding yielded moves on_core spends_pid forks number_of
   yielded-ends h =
       on_hart-any (Ended (yield h) t) t h _ (λ _. refused NoSuchHart refl) (λ _ _. refused HartIdle refl) λ s _ e.
-      granted Done _ refl (one (yielding h s e))
+      granted (Ok Done) _ refl (one (yielding h s e))
 
   slept-ends : (h ch : ℕ) → Ended (sleep h ch) t (slept t h ch)
   unfolding slept moves on_core spends_pid forks number_of
   slept-ends h ch =
       on_hart-any (Ended (sleep h ch) t) t h _ (λ _. refused NoSuchHart refl) (λ _ _. refused HartIdle refl) λ s _ e.
       refuse_if-any (Ended (sleep h ch) t) _ NotADevice t _ (λ _. refused NotADevice refl) λ d.
-      granted Done _ refl (one (sleeping h s ch e (device ch (ltb-false ch first_device d))))
+      granted (Ok Done) _ refl (one (sleeping h s ch e (device ch (ltb-false ch first_device d))))
 
   woken-ends : (ch : ℕ) → Ended (wakeup ch) t (woken t ch)
   unfolding woken moves on_core spends_pid forks number_of
   woken-ends ch =
       refuse_if-any (Ended (wakeup ch) t) _ NotADevice t _ (λ _. refused NotADevice refl) λ _.
-      granted Done _ refl (wake-chain t ch w)
+      granted (Ok Done) _ refl (wake-chain t ch w)
 
   killed-ends : (p : Pid) → Ended (kill p) t (killed t p)
   unfolding killed has_pid moves on_core spends_pid forks number_of
   killed-ends p =
       found-any (Ended (kill p) t) NoneSuch t _ _ (λ _. refused NoneSuch refl) λ i o.
-      granted Done _ refl (slay-chain t i (not-true _ (and_left _ _ (lowest-passes (has_pid p) t.core.slots free i o))))
+      granted (Ok Done) _ refl (slay-chain t i (not-true _ (and_left _ _ (lowest-passes (has_pid p) t.core.slots free i o))))
 
   -- ---- wait, join
   -- a test that no free slot passes, and that no slot is found to pass, is passed nowhere
-  nowhere : (test : Process → Bool) → test free ≡ false → lowest test t.core.slots ≡ none → (j : ℕ) → test (at t.core j) ≡ false
+  nowhere : (test : Process → Bool) → test free ≡ false → lowest test t.core.slots ≡ None → (j : ℕ) → test (at t.core j) ≡ false
   nowhere test f o j = go (leb (length t.core.slots) j) refl
     where
       go : (b : Bool) → leb (length t.core.slots) j ≡ b → test (at t.core j) ≡ false
@@ -149,10 +148,10 @@ module _ (t : Table) (w : Sound t) where
       go s e (lowest (zombie_child_of s) t.core.slots) refl
     where
       go : (s : ℕ) → runs t h s → (o : Option ℕ) → lowest (zombie_child_of s) t.core.slots ≡ o → Ended (wait h x) t (waited_for t h x s o)
-      go s e (some i) o = refuse_if-any (Ended (wait h x) t) _ StatusUnwritable t _ (λ _. refused StatusUnwritable refl) λ _.
+      go s e (Some i) o = refuse_if-any (Ended (wait h x) t) _ StatusUnwritable t _ (λ _. refused StatusUnwritable refl) λ _.
           granted _ _ (reap-pids i t) (one (freeing i (and_left _ _ (lowest-passes (zombie_child_of s) t.core.slots free i o))))
-      go s e none o = refuse_if-any (Ended (wait h x) t) _ NoneSuch t _ (λ _. refused NoneSuch refl) λ _.
-          granted Blocked _ refl (one (sleeping h s (own_channel s) e (waiting (nowhere (zombie_child_of s) (free-no-zombie s) o))))
+      go s e None o = refuse_if-any (Ended (wait h x) t) _ NoneSuch t _ (λ _. refused NoneSuch refl) λ _.
+          granted (Ok Blocked) _ refl (one (sleeping h s (own_channel s) e (waiting (nowhere (zombie_child_of s) (free-no-zombie s) o))))
 
   joined-ends : (h : ℕ) (p : Pid) (x : Wish) → Ended (join h p x) t (joined t h p x)
   unfolding joined joined_by joined_to thread_named thread_of moves on_core spends_pid forks number_of
@@ -161,27 +160,27 @@ module _ (t : Table) (w : Sound t) where
       in_group-any (Ended (join h p x) t) t s _ (λ _. refused NoGroup refl) λ g m.
       refuse_if-any (Ended (join h p x) t) _ NoneSuch t _ (λ _. refused NoneSuch refl) λ own.
       found-any (Ended (join h p x) t) NoneSuch t _ _ (λ _. refused NoneSuch refl) λ i o.
-      go s e g m own i (lowest-passes (thread_named p (In g)) t.core.slots free i o) (is ZOMBIE (at t.core i)) refl
+      go s e g m own i (lowest-passes (thread_named p (Some g)) t.core.slots free i o) (is ZOMBIE (at t.core i)) refl
     where
-      go : (s : ℕ) → runs t h s → (g : ℕ) → (at t.core s).kin.group ≡ In g → eqb (at t.core s).meta.pid.0 p.0 ≡ false
-          → (i : ℕ) → thread_named p (In g) (at t.core i) ≡ true → (b : Bool) → is ZOMBIE (at t.core i) ≡ b → Ended (join h p x) t (joined_to t h x s i)
+      go : (s : ℕ) → runs t h s → (g : ℕ) → (at t.core s).kin.group ≡ Some g → eqb (at t.core s).meta.pid.0 p.0 ≡ false
+          → (i : ℕ) → thread_named p (Some g) (at t.core i) ≡ true → (b : Bool) → is ZOMBIE (at t.core i) ≡ b → Ended (join h p x) t (joined_to t h x s i)
       go s e g m own i n true z = rw z (refuse_if-any (Ended (join h p x) t) _ StatusUnwritable t _ (λ _. refused StatusUnwritable refl) λ _.
           granted _ _ (reap-pids i t) (one (freeing i z)))
-      go s e g m own i n false z = rw z (granted Blocked _ refl (one (sleeping h s (own_channel i) e (joining i apart (record {
+      go s e g m own i n false z = rw z (granted (Ok Blocked) _ refl (one (sleeping h s (own_channel i) e (joining i apart (record {
         used = thread-used t w i (and_left _ _ (and_left _ _ n));
         live = z;
         kin = rw m (and_left _ _ n);
       })))))
         where
           apart : s ≢ i
-          apart f = clash (rw (← f) at (and_right (thread_of (In g) (at t.core i)) (eqb (at t.core i).meta.pid.0 p.0) n)) own
+          apart f = clash (rw (← f) at (and_right (thread_of (Some g) (at t.core i)) (eqb (at t.core i).meta.pid.0 p.0) n)) own
 
   -- ---- the ways out
   leader_exited-ends : (c : Call) (h x s : ℕ) → runs t h s → (at t.core s).kin.thread ≡ false → (at t.core s).kin.system ≡ false → is_slot s t.books.init ≡ false → Ended c t (leader_exited t h x s)
   unfolding leader_exited exited_past moves on_core
   leader_exited-ends c h x s e y v n = go (lowest (thread_of m) u.core.slots) refl
     where
-      m : Member
+      m : Option ℕ
       m = (at t.core s).kin.group
 
       u : Table
@@ -197,14 +196,14 @@ module _ (t : Table) (w : Sound t) where
       spared = reap_threads-spared m s t (other RUNNING ZOMBIE (at t.core s) (runs-running h s t.core w.queued e))
 
       there : runs u h s
-      there = ap (λ (l : List Parent). get_or l h Nobody) spared.harts ∙ e
+      there = ap (λ (l : List (Option Slot)). get_or l h None) spared.harts ∙ e
 
       go : (o : Option ℕ) → lowest (thread_of m) u.core.slots ≡ o → Ended c t (exited_past u h x s o)
-      go (some i) o =
+      go (Some i) o =
           let live : is ZOMBIE (at u.core i) ≡ false = unfold Settled in reap_threads-settled m t w.queued.tall i o in
-          granted Blocked _ spared.pids
+          granted (Ok Blocked) _ spared.pids
           (chained reaping (blocked-chain u sound h s there i (rw spared.slot y) (rw spared.slot (lowest-passes (thread_of m) u.core.slots free i o)) live))
-      go none o = granted Done _ spared.pids (chained reaping (leader-chain u sound h s there x (rw spared.slot y) (rw spared.slot v) (rw spared.init n)))
+      go None o = granted (Ok Done) _ spared.pids (chained reaping (leader-chain u sound h s there x (rw spared.slot y) (rw spared.slot v) (rw spared.init n)))
 
   exited-ends : (h x : ℕ) → Ended (exit h x) t (exited t h x)
   unfolding exited exited_by spends_pid forks number_of
@@ -222,7 +221,7 @@ module _ (t : Table) (w : Sound t) where
     where
       go : (s : ℕ) → runs t h s → (at t.core s).kin.system ≡ false → is_slot s t.books.init ≡ false → (b : Bool) → (at t.core s).kin.thread ≡ b
           → Ended (thread_exit h x) t (cond b (thread_ended t h x s) (leader_exited t h x s))
-      go s e v n true y = granted Done _ refl (thread-chain t w h s e x y v n)
+      go s e v n true y = granted (Ok Done) _ refl (thread-chain t w h s e x y v n)
       go s e v n false y = leader_exited-ends (thread_exit h x) h x s e y v n
 
   -- ---- grow
@@ -233,7 +232,7 @@ module _ (t : Table) (w : Sound t) where
       in_group-any (Ended (grow h d memory) t) t s _ (λ _. refused NoGroup refl) λ g m.
       found-any (Ended (grow h d memory) t) SizeOutOfLimits t _ _ (λ _. refused SizeOutOfLimits refl) λ n o.
       refuse_if-any (Ended (grow h d memory) t) _ NoMemory t _ (λ _. refused NoMemory refl) λ _.
-      granted Done _ refl (one (resizing g n s (within-top _ n o) (runs-range h s t.core w.queued e) (names-own t w h s e g m)))
+      granted (Ok Done) _ refl (one (resizing g n s (within-top _ n o) (runs-range h s t.core w.queued e) (names-own t w h s e g m)))
 
   pub step-ends : (c : Call) → Ended c t (step t c)
   unfolding step

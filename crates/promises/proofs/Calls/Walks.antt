@@ -1,14 +1,13 @@
 -- The parts of calls as chains of moves: wake, kill, reparent, and exit's reaping of ZOMBIE threads.
-use Rattle.std.specs.Prelude.{ℕ, zero, suc, ◌+◌, ◌≤◌, ◌≡◌, ◌⊎◌, Bool, cond, length}
+use Rattle.std.specs.Prelude.{ℕ, zero, suc, ◌+◌, ◌≤◌, ◌≡◌, ◌⊎◌, Bool, cond, length, Option, Some, None}
 use Rattle.std.proofs.Common.{arith, ap, ◌∙◌, inl, inr, get_or-set_same}
 use Rattle.std.proofs.Math.Path.{refl}
 use Rattle.std.proofs.Math.Bool.{true, false}
-use Rattle.std.proofs.Math.Option.{Option, none, some}
 use Rattle.std.proofs.Math.ListN.{get_or-eq_default}
 use Rattle.std.proofs.Math.Seq.{get_or-set_other}
 use Rattle.std.proofs.Math.Dec.{leb}
 use borrow.Author.Tests.{leb-true, leb-false}
-use Rattle.promises.specs.Types.{UNUSED, SLEEPING, ZOMBIE, Parent, Nobody, Of, Member, Kin, Process}
+use Rattle.promises.specs.Types.{UNUSED, SLEEPING, ZOMBIE, Kin, Process, Slot}
 use Rattle.rules.specs.Sizes.{slot_count}
 use Rattle.rules.specs.Model.{Core, Table, at, free, is, is_slot, known, to_killed, with_parent}
 use Rattle.rules.specs.Moves.{change, publish, sweep, lowest, publish_if, sleeps_on, wake_one, wake, wake_of, slay, hand_over, reparent, reap}
@@ -35,7 +34,7 @@ unfolding wake wake_one on_core sweep
 wake-chain t ch w = chain_steps (λ n. on_core (sweep (wake_one ch) n) t) w
     (λ i _. publish_if-chain (on_core (sweep (wake_one ch) i) t) i _ (λ e. and_left _ _ e)) slot_count
 
-pub wake_of-chain : (t : Table) (p : Parent) → Sound t → Chain t (on_core (wake_of p) t)
+pub wake_of-chain : (t : Table) (p : Option Slot) → Sound t → Chain t (on_core (wake_of p) t)
 unfolding on_core
 wake_of-chain t p w = wake_of-any (λ (d : Core). Chain t (record { core = d; books = t.books })) t.core still (λ ch. wake-chain t ch w) p
 
@@ -47,7 +46,7 @@ wake-harts ch c = sweep-keeps (λ (d : Core). d.harts ≡ c.harts) (wake_one ch)
     go s d e true = e
     go s d e false = e
 
-pub wake_of-harts : (p : Parent) (c : Core) → (wake_of p c).harts ≡ c.harts
+pub wake_of-harts : (p : Option Slot) (c : Core) → (wake_of p c).harts ≡ c.harts
 wake_of-harts p c = wake_of-any (λ (d : Core). d.harts ≡ c.harts) c refl (λ ch. wake-harts ch c) p
 
 -- ---- kill
@@ -80,9 +79,9 @@ slay-harts s c = go (is SLEEPING (at c s))
     go false = refl
 
 -- ---- reparent
-is_known : (s : ℕ) (p : Parent) → is_slot s p ≡ true → known p ≡ true
-is_known s Nobody e = e
-is_known s (Of x) e = refl
+is_known : (s : ℕ) (p : Option Slot) → is_slot s p ≡ true → known p ≡ true
+is_known s None e = e
+is_known s (Some x) e = refl
 
 hand_over-chain : (t : Table) (s i : ℕ) → Chain t (on_core (hand_over t.books.init s i) t)
 unfolding hand_over on_core
@@ -98,7 +97,7 @@ unfolding reparent sweep on_core
 reparent-chain t s w = chain_steps (λ n. on_core (sweep (hand_over t.books.init s) n) t) w
     (λ i _. hand_over-chain (on_core (sweep (hand_over t.books.init s) i) t) s i) slot_count
 
-pub reparent-steady : (init : Parent) (s : ℕ) (c : Core) → Steady c (reparent init s c)
+pub reparent-steady : (init : Option Slot) (s : ℕ) (c : Core) → Steady c (reparent init s c)
 unfolding reparent hand_over change
 reparent-steady init s c = sweep-keeps (Steady c) (hand_over init s) (λ i d w. go i d w (is_slot s (at d i).kin.parent)) slot_count c (record { harts = refl; thread = λ j. refl; system = λ j. refl })
   where
@@ -120,7 +119,7 @@ reparent-past : (s : ℕ) (c : Core) (j : ℕ) → length c.slots ≤ j → is_s
 unfolding free
 reparent-past s c j r = ap (λ (p : Process). is_slot s p.kin.parent) (get_or-eq_default c.slots free r)
 
-module _ (init : Parent) (s : ℕ) (n : is_slot s init ≡ false) where
+module _ (init : Option Slot) (s : ℕ) (n : is_slot s init ≡ false) where
   hand_over-keeps : (i j : ℕ) (d : Core) → is_slot s (at d j).kin.parent ≡ false → is_slot s (at (hand_over init s i d) j).kin.parent ≡ false
   unfolding hand_over change
   hand_over-keeps i j d e = go (is_slot s (at d i).kin.parent)
@@ -156,21 +155,21 @@ module _ (init : Parent) (s : ℕ) (n : is_slot s init ≡ false) where
 -- ---- exit's loop over the ZOMBIE threads of a group
 reap_if_zombie-chain : (t : Table) (o : Option ℕ) → Chain t (reap_if_zombie t o)
 unfolding reap_if_zombie
-reap_if_zombie-chain t none = still
-reap_if_zombie-chain t (some i) = go (is ZOMBIE (at t.core i)) refl
+reap_if_zombie-chain t None = still
+reap_if_zombie-chain t (Some i) = go (is ZOMBIE (at t.core i)) refl
   where
     go : (b : Bool) → is ZOMBIE (at t.core i) ≡ b → Chain t (cond b (reap i t) t)
     go true e = one (freeing i e)
     go false e = still
 
-pub reap_threads-chain : (m : Member) (t : Table) → Sound t → Chain t (reap_threads m t)
+pub reap_threads-chain : (m : Option ℕ) (t : Table) → Sound t → Chain t (reap_threads m t)
 unfolding reap_threads reap_first sweep
 reap_threads-chain m t w = chain_steps (λ n. sweep (λ _. reap_first m) n t) w (λ i _. reap_if_zombie-chain _ _) slot_count
 
 reap_if_zombie-spared : (s : ℕ) (t u : Table) → is ZOMBIE (at t.core s) ≡ false → Spared s t u → (o : Option ℕ) → Spared s t (reap_if_zombie u o)
 unfolding reap_if_zombie
-reap_if_zombie-spared s t u z w none = w
-reap_if_zombie-spared s t u z w (some i) = go (is ZOMBIE (at u.core i)) refl
+reap_if_zombie-spared s t u z w None = w
+reap_if_zombie-spared s t u z w (Some i) = go (is ZOMBIE (at u.core i)) refl
   where
     go : (b : Bool) → is ZOMBIE (at u.core i) ≡ b → Spared s t (cond b (reap i u) u)
     go true e = unfold reap change in record {
@@ -181,19 +180,19 @@ reap_if_zombie-spared s t u z w (some i) = go (is ZOMBIE (at u.core i)) refl
     }
     go false e = w
 
-pub reap_threads-spared : (m : Member) (s : ℕ) (t : Table) → is ZOMBIE (at t.core s) ≡ false → Spared s t (reap_threads m t)
+pub reap_threads-spared : (m : Option ℕ) (s : ℕ) (t : Table) → is ZOMBIE (at t.core s) ≡ false → Spared s t (reap_threads m t)
 unfolding reap_threads reap_first
 reap_threads-spared m s t z = sweep-keeps (Spared s t) (λ _. reap_first m) (λ _ u w. reap_if_zombie-spared s t u z w _) slot_count t
     (record { harts = refl; slot = refl; init = refl; pids = refl })
 
-threads : Member → Table → ℕ
+threads : Option ℕ → Table → ℕ
 threads m t = tally (thread_of m) t.core.slots
 
-free-no-thread : (m : Member) → thread_of m free ≡ false
+free-no-thread : (m : Option ℕ) → thread_of m free ≡ false
 unfolding thread_of free
 free-no-thread m = refl
 
-reap-fewer : (m : Member) (t : Table) (i : ℕ) → lowest (thread_of m) t.core.slots ≡ some i → threads m (reap i t) + 1 ≡ threads m t
+reap-fewer : (m : Option ℕ) (t : Table) (i : ℕ) → lowest (thread_of m) t.core.slots ≡ Some i → threads m (reap i t) + 1 ≡ threads m t
 unfolding threads reap change
 reap-fewer m t i e = omega (
   arith,
@@ -202,28 +201,28 @@ reap-fewer m t i e = omega (
   ap ind (free-no-thread m),
 )
 
-one-look : (m : Member) (t : Table) → Settled m (reap_first m t) ⊎ (threads m (reap_first m t) + 1 ≡ threads m t)
+one-look : (m : Option ℕ) (t : Table) → Settled m (reap_first m t) ⊎ (threads m (reap_first m t) + 1 ≡ threads m t)
 unfolding reap_first reap_if_zombie Settled
 one-look m t = go (lowest (thread_of m) t.core.slots) refl
   where
     go : (o : Option ℕ) → lowest (thread_of m) t.core.slots ≡ o → Settled m (reap_if_zombie t o) ⊎ (threads m (reap_if_zombie t o) + 1 ≡ threads m t)
-    go none e = inl (λ i f. cc)
-    go (some i) e = pick (is ZOMBIE (at t.core i)) refl
+    go None e = inl (λ i f. cc)
+    go (Some i) e = pick (is ZOMBIE (at t.core i)) refl
       where
         pick : (b : Bool) → is ZOMBIE (at t.core i) ≡ b → Settled m (cond b (reap i t) t) ⊎ (threads m (cond b (reap i t) t) + 1 ≡ threads m t)
         pick true z = inr (reap-fewer m t i e)
         pick false z = inl (λ j f. let k : i ≡ j = cc in rw (← k) z)
 
 -- once settled, a further look changes nothing
-pub settled-stays : (m : Member) (t : Table) → Settled m t → reap_first m t ≡ t
+pub settled-stays : (m : Option ℕ) (t : Table) → Settled m t → reap_first m t ≡ t
 unfolding reap_first reap_if_zombie Settled
 settled-stays m t w = go (lowest (thread_of m) t.core.slots) refl
   where
     go : (o : Option ℕ) → lowest (thread_of m) t.core.slots ≡ o → reap_if_zombie t o ≡ t
-    go none e = refl
-    go (some i) e = rw (w i e)
+    go None e = refl
+    go (Some i) e = rw (w i e)
 
-looks : (m : Member) (t : Table) (n : ℕ) → Settled m (sweep (λ _. reap_first m) n t) ⊎ (threads m (sweep (λ _. reap_first m) n t) + n ≤ threads m t)
+looks : (m : Option ℕ) (t : Table) (n : ℕ) → Settled m (sweep (λ _. reap_first m) n t) ⊎ (threads m (sweep (λ _. reap_first m) n t) + n ≤ threads m t)
 unfolding sweep
 looks m t zero = inr (omega arith)
 looks m t (suc n) = go (looks m t n) (one-look m u)
@@ -237,7 +236,7 @@ looks m t (suc n) = go (looks m t n) (one-look m u)
     go (inr h) (inl w) = inl w
     go (inr h) (inr e) = inr (omega arith)
 
-pub reap_threads-settled : (m : Member) (t : Table) → length t.core.slots ≡ slot_count → Settled m (reap_threads m t)
+pub reap_threads-settled : (m : Option ℕ) (t : Table) → length t.core.slots ≡ slot_count → Settled m (reap_threads m t)
 unfolding reap_threads Settled threads
 reap_threads-settled m t tall = go (looks m t slot_count)
   where

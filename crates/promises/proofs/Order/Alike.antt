@@ -1,7 +1,7 @@
 -- What most moves leave alone of every slot: its pid, its group, and whether it is used. With that, a move is one of five kinds.
-use Rattle.std.specs.Prelude.{ℕ, ◌≡◌, refl, Bool, true, false, List, get_or, set}
+use Rattle.std.specs.Prelude.{ℕ, ◌≡◌, refl, Bool, true, false, List, get_or, set, Option}
 use Rattle.std.proofs.Common.{sym, ◌∙◌, length-set}
-use Rattle.promises.specs.Types.{UNUSED, RUNNABLE, SLEEPING, ZOMBIE, Parent, Process}
+use Rattle.promises.specs.Types.{UNUSED, RUNNABLE, SLEEPING, ZOMBIE, Process, Slot}
 use Rattle.rules.specs.Sizes.{slot_count}
 use Rattle.rules.specs.Model.{Core, Table, at, free, is, to_running, to_sleeping, to_zombie, to_killed, with_parent}
 use Rattle.rules.specs.Moves.{change, publish, hand, idle, yield_on, sleep_on, zombie_on, publish_if, sleeps_on, wake_one, wake, wake_of}
@@ -48,7 +48,7 @@ wake-alikes ch c = sweep-keeps (λ (d : Core). Alikes c.slots d.slots) (wake_one
     go s d w false e = w
 
 -- a slot gets another parent, and somebody is woken
-adopt-alikes : (q : Parent) (i : ℕ) (c : Core) → Alikes c.slots (wake_of q (change (with_parent q) i c)).slots
+adopt-alikes : (q : Option Slot) (i : ℕ) (c : Core) → Alikes c.slots (wake_of q (change (with_parent q) i c)).slots
 unfolding change
 adopt-alikes q i c = wake_of-any (λ (d : Core). Alikes c.slots d.slots) (change (with_parent q) i c) first (λ ch. alikes-then first (wake-alikes ch (change (with_parent q) i c))) q
   where

@@ -1,10 +1,10 @@
 -- Each move keeps the sleepers' two rules: no ZOMBIE child under a waiting parent, and joiners sleep on live threads of their own.
-use Rattle.std.specs.Prelude.{ℕ, ◌≤◌, ◌<◌, ◌≡◌, ◌≢◌, Bool, ◌&&◌, List, length, get_or, set, eqb}
+use Rattle.std.specs.Prelude.{ℕ, ◌≤◌, ◌<◌, ◌≡◌, ◌≢◌, Bool, ◌&&◌, List, length, get_or, set, eqb, Option, Some, None}
 use Rattle.std.proofs.Common.{arith, sym, ap, ◌∙◌, length-set, get_or-set_same, get_or-set_other, eqb-true}
 use Rattle.std.proofs.Math.Path.{refl}
 use Rattle.std.proofs.Math.Bool.{true, false, not}
 use Rattle.std.proofs.lemmas.Bool.{eqb-false}
-use Rattle.promises.specs.Types.{UNUSED, RUNNABLE, RUNNING, SLEEPING, ZOMBIE, Parent, Nobody, Of, ProcMeta, Process, Kin}
+use Rattle.promises.specs.Types.{UNUSED, RUNNABLE, RUNNING, SLEEPING, ZOMBIE, ProcMeta, Process, Kin, Slot}
 use Rattle.rules.specs.Sizes.{slot_count, own_channel, first_device}
 use Rattle.rules.specs.Model.{Core, Table, at, free, taken, is, is_slot, state_code, to_runnable, to_running, to_sleeping, to_zombie, to_killed, with_parent}
 use Rattle.rules.specs.Moves.{change, publish, hand, idle, yield_on, sleep_on, zombie_on, sleeps_on, wake, wake_of, reap}
@@ -31,22 +31,22 @@ unfolding thread_of
 lives-same p q x y a b k u z l = record { used = u ∙ l.used; live = z ∙ l.live; kin = rw (a, b, k) l.kin }
 
 -- ---- the rules, but for the waiting slot q, which is to be woken
-record AsleepBut (q : Parent) (c : Core) : Type 0 where
+record AsleepBut (q : Option Slot) (c : Core) : Type 0 where
   waits : (s j : ℕ) → is_slot s q ≡ false → sleeps_on (own_channel s) (at c s) ≡ true → zombie_child_of s (at c j) ≡ false
   joins : (s i : ℕ) → i < slot_count → s ≢ i → sleeps_on (own_channel i) (at c s) ≡ true → Lives (at c s) (at c i)
 
-asleep-calm : (q : Parent) (c d : Core) → ((j : ℕ) → Calm (at c j) (at d j)) → AsleepBut q c → AsleepBut q d
+asleep-calm : (q : Option Slot) (c d : Core) → ((j : ℕ) → Calm (at c j) (at d j)) → AsleepBut q c → AsleepBut q d
 asleep-calm q c d k w = record {
   waits = λ s j n e. zombie-child-same s (at c j) (at d j) (k j).zombie (k j).kin ∙ w.waits s j n ((k s).sleeps (own_channel s) e);
   joins = λ s i r n e. lives-same (at c s) (at c i) (at d s) (at d i) (ap (λ (x : Kin). x.group) (k s).kin) (ap (λ (x : Kin). x.thread) (k i).kin)
       (ap (λ (x : Kin). x.group) (k i).kin) (k i).used (k i).zombie (w.joins s i r n ((k s).sleeps (own_channel i) e));
 }
 
-all_but : (q : Parent) (c : Core) → Asleep c → AsleepBut q c
+all_but : (q : Option Slot) (c : Core) → Asleep c → AsleepBut q c
 all_but q c w = record { waits = λ s j _. w.waits s j; joins = w.joins }
 
 calm-kept : (c d : Core) → ((j : ℕ) → Calm (at c j) (at d j)) → Asleep c → Asleep d
-calm-kept c d k w = let v = asleep-calm Nobody c d k (all_but Nobody c w) in record { waits = λ s j. v.waits s j refl; joins = v.joins }
+calm-kept c d k w = let v = asleep-calm None c d k (all_but None c w) in record { waits = λ s j. v.waits s j refl; joins = v.joins }
 
 -- ---- slot s of c is y in d, and every other is as it was
 record Replaced (c d : Core) (s : ℕ) (y : Process) : Type 0 where
@@ -165,13 +165,13 @@ module _ (t : Table) (h s : ℕ) (v : Queued t.core) (w : Asleep t.core) (e : ru
 
 -- ---- a slot gets init for its parent, and init is woken
 -- y is p but for its parent, which is q if it is another
-record Reparented (q : Parent) (p y : Process) : Type 0 where
+record Reparented (q : Option Slot) (p y : Process) : Type 0 where
   meta : y.meta ≡ p.meta
   group : y.kin.group ≡ p.kin.group
   thread : y.kin.thread ≡ p.kin.thread
   parent : (s : ℕ) → is_slot s q ≡ false → is_slot s y.kin.parent ≡ true → is_slot s p.kin.parent ≡ true
 
-adopted : (q : Parent) (i : ℕ) (c : Core) → Asleep c → AsleepBut q (change (with_parent q) i c)
+adopted : (q : Option Slot) (i : ℕ) (c : Core) → Asleep c → AsleepBut q (change (with_parent q) i c)
 unfolding change zombie_child_of child_of
 adopted q i c w = record {
   waits = λ s j n e. waits s j n e (zombie_child_of s (at d j)) refl;
@@ -198,19 +198,19 @@ adopted q i c w = record {
         let h : not (at d j).kin.thread ≡ true = and_right (is_slot s (at d j).kin.parent) (not (at d j).kin.thread) g in
         absurd (clash (and_both _ _ (rw (each j).meta at z) (and_both _ _ k (rw (each j).thread at h))) (w.waits s j (asleep s (own_channel s) e)))
 
-adoption-kept : (q : Parent) (i : ℕ) (c : Core) → length c.slots ≡ slot_count → Asleep c → Asleep (wake_of q (change (with_parent q) i c))
+adoption-kept : (q : Option Slot) (i : ℕ) (c : Core) → length c.slots ≡ slot_count → Asleep c → Asleep (wake_of q (change (with_parent q) i c))
 unfolding wake_of change
-adoption-kept Nobody i c tall w = let v = adopted Nobody i c w in record { waits = λ s j. v.waits s j refl; joins = v.joins }
-adoption-kept (Of x) i c tall w = record { waits = λ s j. waits s j (is_slot s (Of x)) refl; joins = v.joins }
+adoption-kept None i c tall w = let v = adopted None i c w in record { waits = λ s j. v.waits s j refl; joins = v.joins }
+adoption-kept (Some x) i c tall w = record { waits = λ s j. waits s j (is_slot s (Some x)) refl; joins = v.joins }
   where
     d : Core
-    d = change (with_parent (Of x)) i c
+    d = change (with_parent (Some x)) i c
 
-    v : AsleepBut (Of x) (wake (own_channel x.0) d)
-    v = asleep-calm (Of x) d (wake (own_channel x.0) d) (wake-calm (own_channel x.0) d) (adopted (Of x) i c w)
+    v : AsleepBut (Some x) (wake (own_channel x.0) d)
+    v = asleep-calm (Some x) d (wake (own_channel x.0) d) (wake-calm (own_channel x.0) d) (adopted (Some x) i c w)
 
-    waits : (s j : ℕ) (b : Bool) → is_slot s (Of x) ≡ b → sleeps_on (own_channel s) (at (wake (own_channel x.0) d) s) ≡ true → zombie_child_of s (at (wake (own_channel x.0) d) j) ≡ false
-    waits s j true p e = absurd (clash e (rw (eqb-true s x.0 p) (wake-empties (own_channel x.0) d (length-set c.slots i (with_parent (Of x) (at c i)) ∙ tall) x.0)))
+    waits : (s j : ℕ) (b : Bool) → is_slot s (Some x) ≡ b → sleeps_on (own_channel s) (at (wake (own_channel x.0) d) s) ≡ true → zombie_child_of s (at (wake (own_channel x.0) d) j) ≡ false
+    waits s j true p e = absurd (clash e (rw (eqb-true s x.0 p) (wake-empties (own_channel x.0) d (length-set c.slots i (with_parent (Some x) (at c i)) ∙ tall) x.0)))
     waits s j false p e = v.waits s j p e
 
 -- ---- every move

@@ -1,7 +1,7 @@
 -- Every allowed move keeps a table sound, and so does a dispatch and a chain; moves only add to the queue, at its tail.
-use Rattle.std.specs.Prelude.{ℕ, zero, suc, ◌<◌, ◌≡◌, refl, Bool, true, false, List, [], ◌∷◌, ◌++◌}
+use Rattle.std.specs.Prelude.{ℕ, zero, suc, ◌<◌, ◌≡◌, refl, Bool, true, false, List, [], ◌∷◌, ◌++◌, Option, None}
 use Rattle.std.proofs.Common.{sym, ap, ◌∙◌, subst, append_assoc, append-nil}
-use Rattle.promises.specs.Types.{RUNNABLE, Parent, Nobody}
+use Rattle.promises.specs.Types.{RUNNABLE, Slot}
 use Rattle.rules.specs.Sizes.{slot_count, hart_count}
 use Rattle.rules.specs.Model.{Core, Table, at, hart_at, is}
 use Rattle.rules.specs.Moves.{change, publish, hand, idle, yield_on, sleep_on, zombie_on, publish_if, sleeps_on, wake_one, wake, wake_of, reap}
@@ -35,7 +35,7 @@ chain-sound w still = w
 chain-sound w (and_then c m) = move-sound (chain-sound w c) m
 
 -- the head goes to an idle hart
-pub hand-sound : (t : Table) (h s : ℕ) (rest : List ℕ) → Sound t → t.core.queue ≡ s ∷ rest → h < hart_count → hart_at t.core h ≡ Nobody → Sound (on_core (hand h s rest) t)
+pub hand-sound : (t : Table) (h s : ℕ) (rest : List ℕ) → Sound t → t.core.queue ≡ s ∷ rest → h < hart_count → hart_at t.core h ≡ None → Sound (on_core (hand h s rest) t)
 unfolding on_core
 hand-sound t h s rest w q r e = record {
   queued = hand-queued h s rest t.core w.queued q (subst (λ (n : ℕ). h < n) (sym w.queued.wide) r) e;
@@ -68,7 +68,7 @@ wake-grows ch c = sweep-keeps (λ (d : Core). Grows c.queue d.queue) (wake_one c
     go s d w true = longer w (record { new = s ∷ []; split = refl })
     go s d w false = w
 
-wake_of-grows : (p : Parent) (c : Core) → Grows c.queue (wake_of p c).queue
+wake_of-grows : (p : Option Slot) (c : Core) → Grows c.queue (wake_of p c).queue
 wake_of-grows p c = wake_of-any (λ (d : Core). Grows c.queue d.queue) c (same c.queue) (λ ch. wake-grows ch c) p
 
 move-grows : {t u : Table} → Move t u → Grows t.core.queue u.core.queue

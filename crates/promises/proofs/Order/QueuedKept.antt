@@ -1,11 +1,11 @@
 -- Each move keeps queue, harts and flags in step with the states.
-use Rattle.std.specs.Prelude.{ℕ, ◌+◌, ◌<◌, ◌≡◌, Bool, cond, List, ◌∷◌, length, get_or, set, eqb}
+use Rattle.std.specs.Prelude.{ℕ, ◌+◌, ◌<◌, ◌≡◌, Bool, cond, List, ◌∷◌, length, get_or, set, eqb, Option, Some, None}
 use native.Mathlib.Omega.{arith}
 use Rattle.std.proofs.Math.Path.{refl, sym}
 use Rattle.std.proofs.Common.{ap, ◌∙◌, inr}
 use Rattle.std.proofs.Math.Bool.{true, false}
 use Rattle.std.proofs.Math.ListN.{length-set}
-use Rattle.promises.specs.Types.{UNUSED, RUNNABLE, RUNNING, ZOMBIE, Parent, Nobody, Of, Process}
+use Rattle.promises.specs.Types.{UNUSED, RUNNABLE, RUNNING, ZOMBIE, Process, Slot}
 use Rattle.rules.specs.Sizes.{slot_count}
 use Rattle.rules.specs.Model.{Core, Table, at, hart_at, free, taken, is, is_slot, slot, to_runnable, to_running, to_sleeping, to_zombie, to_killed, with_parent}
 use Rattle.rules.specs.Moves.{hand_over, change, publish, hand, idle, yield_on, sleep_on, zombie_on, publish_if, sleeps_on, wake_one, wake, wake_of, to_free, reap}
@@ -77,14 +77,14 @@ pub wake-queued : (ch : ℕ) (c : Core) → Queued c → Queued (wake ch c)
 unfolding wake
 wake-queued ch c v = sweep-keeps Queued (wake_one ch) (wake_one-queued ch) slot_count c v
 
-pub wake_of-queued : (p : Parent) (c : Core) → Queued c → Queued (wake_of p c)
+pub wake_of-queued : (p : Option Slot) (c : Core) → Queued c → Queued (wake_of p c)
 wake_of-queued p c v = wake_of-any Queued c v (λ ch. wake-queued ch c v) p
 
 -- a slot gets another parent
-pub parent-queued : (q : Parent) (i : ℕ) (c : Core) → Queued c → Queued (change (with_parent q) i c)
+pub parent-queued : (q : Option Slot) (i : ℕ) (c : Core) → Queued c → Queued (change (with_parent q) i c)
 parent-queued q i c v = change-queued (with_parent q) i c v (stays (at c i) (with_parent q (at c i)) refl refl refl (v.flag i))
 
-pub hand_over-queued : (init : Parent) (s i : ℕ) (c : Core) → Queued c → Queued (hand_over init s i c)
+pub hand_over-queued : (init : Option Slot) (s i : ℕ) (c : Core) → Queued c → Queued (hand_over init s i c)
 unfolding hand_over
 hand_over-queued init s i c v = go (is_slot s (at c i).kin.parent)
   where
@@ -93,9 +93,9 @@ hand_over-queued init s i c v = go (is_slot s (at c i).kin.parent)
     go false = v
 
 -- the caller s leaves hart h
-module _ (h s : ℕ) (c : Core) (v : Queued c) (e : hart_at c h ≡ Of (slot s)) where
-  left : (j : ℕ) → tally (is_slot j) (set c.harts h Nobody) + ind (eqb j s) ≡ tally (is_slot j) c.harts
-  left j = omega (arith, rw e at (tally-set (is_slot j) c.harts h Nobody Nobody (hart-range c.harts h (slot s) e)))
+module _ (h s : ℕ) (c : Core) (v : Queued c) (e : hart_at c h ≡ Some (slot s)) where
+  left : (j : ℕ) → tally (is_slot j) (set c.harts h None) + ind (eqb j s) ≡ tally (is_slot j) c.harts
+  left j = omega (arith, rw e at (tally-set (is_slot j) c.harts h None None (hart-range c.harts h (slot s) e)))
 
   not-ready : is RUNNABLE (at c s) ≡ false
   not-ready = other RUNNING RUNNABLE (at c s) (runs-running h s c v e)
@@ -116,7 +116,7 @@ module _ (h s : ℕ) (c : Core) (v : Queued c) (e : hart_at c h ≡ Of (slot s))
       delta (is RUNNING) c.slots s (to_runnable (at c s)) free true false (runs-range h s c v e) (runs-running h s c v e) refl j,
     );
     flag = all_set flagged c.slots s (to_runnable (at c s)) free v.flag refl;
-    wide = length-set c.harts h Nobody ∙ v.wide;
+    wide = length-set c.harts h None ∙ v.wide;
     tall = length-set c.slots s (to_runnable (at c s)) ∙ v.tall;
   }
 
@@ -133,7 +133,7 @@ module _ (h s : ℕ) (c : Core) (v : Queued c) (e : hart_at c h ≡ Of (slot s))
       delta (is RUNNING) c.slots s (f (at c s)) free true false (runs-range h s c v e) (runs-running h s c v e) b j,
     );
     flag = all_set flagged c.slots s (f (at c s)) free v.flag (q ∙ sym a);
-    wide = length-set c.harts h Nobody ∙ v.wide;
+    wide = length-set c.harts h None ∙ v.wide;
     tall = length-set c.slots s (f (at c s)) ∙ v.tall;
   }
 
@@ -141,18 +141,18 @@ module _ (h s : ℕ) (c : Core) (v : Queued c) (e : hart_at c h ≡ Of (slot s))
   unflagged = v.flag s ∙ not-ready
 
 -- the head leaves the queue for an idle hart
-pub hand-queued : (h s : ℕ) (rest : List ℕ) (c : Core) → Queued c → c.queue ≡ s ∷ rest → h < length c.harts → hart_at c h ≡ Nobody → Queued (hand h s rest c)
+pub hand-queued : (h s : ℕ) (rest : List ℕ) (c : Core) → Queued c → c.queue ≡ s ∷ rest → h < length c.harts → hart_at c h ≡ None → Queued (hand h s rest c)
 unfolding hand change tally
 hand-queued h s rest c v q r e = record {
   queue = λ j. omega (arith, v.queue j, ap (tally (eqb j)) q, delta (is RUNNABLE) c.slots s y free true false range ready refl j);
   harts = λ j. omega (
     arith,
     v.harts j,
-    rw e at (tally-set (is_slot j) c.harts h (Of (slot s)) Nobody r),
+    rw e at (tally-set (is_slot j) c.harts h (Some (slot s)) None r),
     delta (is RUNNING) c.slots s y free false true range (other RUNNABLE RUNNING (at c s) ready) refl j,
   );
   flag = all_set flagged c.slots s y free v.flag refl;
-  wide = length-set c.harts h (Of (slot s)) ∙ v.wide;
+  wide = length-set c.harts h (Some (slot s)) ∙ v.wide;
   tall = length-set c.slots s y ∙ v.tall;
 }
   where

@@ -1,11 +1,10 @@
 -- How a call ends; what is known of a slot that it takes, and of its caller.
-use Rattle.std.specs.Prelude.{ℕ, ◌+◌, ◌≤◌, ◌<◌, ◌≡◌, Bool, cond, List, ◌∷◌, ◌++◌, length, replicate, pos, negsuc, ℤ, leb}
+use Rattle.std.specs.Prelude.{ℕ, ◌+◌, ◌≤◌, ◌<◌, ◌≡◌, Bool, cond, List, ◌∷◌, ◌++◌, length, replicate, pos, negsuc, ℤ, leb, Some, None, Ok, Err}
 use Rattle.std.proofs.Common.{arith, ap, ◌∙◌, length-append, length-take, get_or-set_same, eq-eqb, eqb-true, leb-true}
 use Rattle.std.proofs.Math.Path.{refl}
 use Rattle.std.proofs.Math.Bool.{true, false}
-use Rattle.std.proofs.Math.Option.{none, some}
 use Rattle.std.proofs.lemmas.List.{length-replicate}
-use Rattle.promises.specs.Types.{UNUSED, ALLOCATED, RUNNING, ZOMBIE, Nobody, Of, In, Kin, Start, Refusal, Answer, Done, Made, Handed, Reaped, Joined, Blocked, Refused}
+use Rattle.promises.specs.Types.{UNUSED, ALLOCATED, RUNNING, ZOMBIE, Kin, Start, Refusal, Answer, Done, Made, Handed, Reaped, Joined, Blocked}
 use Rattle.rules.specs.Sizes.{size_top, hart_count, pid_top, name_size}
 use Rattle.rules.specs.Answers.{number_of}
 use Rattle.rules.specs.Model.{Core, Table, at, hart_at, free, taken, is, is_slot, known, same_group, slot}
@@ -22,27 +21,27 @@ use Rattle.promises.specs.Calls.RefusalTable.{spends_pid}
 -- ---- how a call ends
 -- the pid counter moves by one with a pid that is answered, and else not at all
 abbrev pub Fair : Table → Answer → Table → Type 0
-Fair t (Made p) u = (p.0 ≡ t.books.pids + 1) × (u.books.pids ≡ t.books.pids + 1)
-Fair t (Handed s) u = ⊥
-Fair t (Refused r) u = ⊥
-Fair t Done u = u.books.pids ≡ t.books.pids
-Fair t (Reaped p x) u = u.books.pids ≡ t.books.pids
-Fair t (Joined x) u = u.books.pids ≡ t.books.pids
-Fair t Blocked u = u.books.pids ≡ t.books.pids
+Fair t (Ok (Made p)) u = (p.0 ≡ t.books.pids + 1) × (u.books.pids ≡ t.books.pids + 1)
+Fair t (Ok (Handed s)) u = ⊥
+Fair t (Err r) u = ⊥
+Fair t (Ok Done) u = u.books.pids ≡ t.books.pids
+Fair t (Ok (Reaped p x)) u = u.books.pids ≡ t.books.pids
+Fair t (Ok (Joined x)) u = u.books.pids ≡ t.books.pids
+Fair t (Ok Blocked) u = u.books.pids ≡ t.books.pids
 
 pub data Ended (c : Call) (t : Table) : Outcome → Type 0 where
   refused : (r : Refusal) → spends_pid c (number_of r) ≡ false → Ended c t (refuse r t)
   spent_on : (r : Refusal) → spends_pid c (number_of r) ≡ true → t.books.pids < pid_top → Ended c t (refuse r (spent t))
-  handed : (h s : ℕ) (rest : List ℕ) → c ≡ dispatch h → t.core.queue ≡ s ∷ rest → h < hart_count → hart_at t.core h ≡ Nobody
-      → Ended c t (moves (Handed (slot s)) (hand h s rest t.core) t)
+  handed : (h s : ℕ) (rest : List ℕ) → c ≡ dispatch h → t.core.queue ≡ s ∷ rest → h < hart_count → hart_at t.core h ≡ None
+      → Ended c t (moves (Ok (Handed (slot s))) (hand h s rest t.core) t)
   granted : (a : Answer) (u : Table) → Fair t a u → Chain t u → Ended c t (gives a u)
 
 -- ---- slots just taken, and sizes
-pub within-top : (d : ℤ) (n : ℕ) → within d ≡ some n → n ≤ size_top
+pub within-top : (d : ℤ) (n : ℕ) → within d ≡ Some n → n ≤ size_top
 unfolding within
 within-top (pos k) n e = go (leb k size_top) refl e
   where
-    go : (b : Bool) → leb k size_top ≡ b → cond b (some k) none ≡ some n → n ≤ size_top
+    go : (b : Bool) → leb k size_top ≡ b → cond b (Some k) None ≡ Some n → n ≤ size_top
     go true p q = let z : k ≡ n = cc in rw (← z) (leb-true k size_top p)
     go false p q = let z : ◌≡◌ {A = ℕ} 0 1 = cc in absurd (omega arith)
 within-top (negsuc k) n e = let z : ◌≡◌ {A = ℕ} 0 1 = cc in absurd (omega arith)
@@ -52,7 +51,7 @@ unfolding padded
 padded-long l = omega (arith, length-take name_size (l ++ replicate name_size 0), length-append l (replicate name_size 0), length-replicate {A = ℕ} name_size 0)
 
 module _ (t : Table) (w : Sound t) where
-  pub vacant : (s : ℕ) → lowest (is UNUSED) t.core.slots ≡ some s → Vacant (spent t) s
+  pub vacant : (s : ℕ) → lowest (is UNUSED) t.core.slots ≡ Some s → Vacant (spent t) s
   unfolding spent spend
   vacant s o = record {
     range = lowest-range (is UNUSED) t.core.slots free s o;
@@ -72,21 +71,21 @@ module _ (t : Table) (w : Sound t) (h s : ℕ) (e : runs t h s) where
   used = runs-used h s t.core w.queued e
 
   -- a slot with a group is no system thread
-  pub user : (g : ℕ) → (at t.core s).kin.group ≡ In g → (at t.core s).kin.system ≡ false
+  pub user : (g : ℕ) → (at t.core s).kin.group ≡ Some g → (at t.core s).kin.system ≡ false
   user g m = go (at t.core s).kin.system refl
     where
       go : (b : Bool) → (at t.core s).kin.system ≡ b → (at t.core s).kin.system ≡ false
       go true y = absurd (clash (ap is_in m) (ap is_in ((w.tidy s).lone y).0))
       go false y = y
 
-  pub after : (g : ℕ) → (at t.core s).kin.group ≡ In g → known t.books.init ≡ true
+  pub after : (g : ℕ) → (at t.core s).kin.group ≡ Some g → known t.books.init ≡ true
   after g m = (w.tidy s).after used (user g m)
 
-  pub names-own : (g : ℕ) → (at t.core s).kin.group ≡ In g → names g (at t.core s) ≡ true
-  names-own g m = ap (same_group (In g)) m ∙ eq-eqb g g refl
+  pub names-own : (g : ℕ) → (at t.core s).kin.group ≡ Some g → names g (at t.core s) ≡ true
+  names-own g m = ap (same_group (Some g)) m ∙ eq-eqb g g refl
 
   -- whoever is to be the parent of the caller's threads is there
-  pub leader-known : (g : ℕ) → (at t.core s).kin.group ≡ In g → known (leader_of (at t.core s) s) ≡ true
+  pub leader-known : (g : ℕ) → (at t.core s).kin.group ≡ Some g → known (leader_of (at t.core s) s) ≡ true
   unfolding leader_of
   leader-known g m = go (at t.core s).kin.thread refl
     where
@@ -94,18 +93,18 @@ module _ (t : Table) (w : Sound t) (h s : ℕ) (e : runs t h s) where
       not-init y true i = absurd (clash y ((w.tidy s).first i).leads)
       not-init y false i = i
 
-      go : (b : Bool) → (at t.core s).kin.thread ≡ b → known (cond b (at t.core s).kin.parent (Of (slot s))) ≡ true
+      go : (b : Bool) → (at t.core s).kin.thread ≡ b → known (cond b (at t.core s).kin.parent (Some (slot s))) ≡ true
       go true y = (w.tidy s).child used (user g m) (not-init y (is_slot s t.books.init) refl)
       go false y = refl
 
   -- .. and so is the caller
-  pub caller-elder : (g : ℕ) → (at t.core s).kin.group ≡ In g → Elder (at t.core s)
+  pub caller-elder : (g : ℕ) → (at t.core s).kin.group ≡ Some g → Elder (at t.core s)
   caller-elder g m = record { used = used; live = other RUNNING ZOMBIE (at t.core s) (runs-running h s t.core w.queued e); user = user g m }
 
-  pub leader-elder : (g : ℕ) → (at t.core s).kin.group ≡ In g → (x : ℕ) → is_slot x (leader_of (at t.core s) s) ≡ true → Elder (at t.core x)
+  pub leader-elder : (g : ℕ) → (at t.core s).kin.group ≡ Some g → (x : ℕ) → is_slot x (leader_of (at t.core s) s) ≡ true → Elder (at t.core x)
   unfolding leader_of
   leader-elder g m x = go (at t.core s).kin.thread
     where
-      go : (b : Bool) → is_slot x (cond b (at t.core s).kin.parent (Of (slot s))) ≡ true → Elder (at t.core x)
+      go : (b : Bool) → is_slot x (cond b (at t.core s).kin.parent (Some (slot s))) ≡ true → Elder (at t.core x)
       go true i = w.raised.elder s x i
       go false i = rw (eqb-true x s i) (caller-elder g m)

@@ -1,7 +1,6 @@
 -- Document 01's table of refusals, read by call: the lines that name it, whether each holds, and the order in which they count.
-use Rattle.std.specs.Prelude.{ℕ, suc, ◌+◌, ◌%◌, Bool, true, false, not, cond, ◌&&◌, ◌||◌, List, [], ◌∷◌, length, eqb, leb, ltb, ℤ, pos, negsuc, ◌+ℤ◌}
-use Rattle.std.proofs.Math.Option.{Option, none, some}
-use Rattle.promises.specs.Types.{Pid, UNUSED, ALLOCATED, ZOMBIE, Parent, Nobody, Of, Member, Alone, In, Process, Wish, NotWanted, Writable, Unwritable, ThreadAsk, Mapped, Answer, Done, Made, Handed, Reaped, Joined, Blocked, Refused}
+use Rattle.std.specs.Prelude.{ℕ, suc, ◌+◌, ◌%◌, Bool, true, false, not, cond, ◌&&◌, ◌||◌, List, [], ◌∷◌, length, eqb, leb, ltb, ℤ, pos, negsuc, ◌+ℤ◌, Option, Some, None, Ok, Err}
+use Rattle.promises.specs.Types.{Pid, UNUSED, ALLOCATED, ZOMBIE, Process, Wish, NotWanted, Writable, Unwritable, ThreadAsk, Mapped, Answer, Done, Made, Handed, Reaped, Joined, Blocked, Slot}
 use Rattle.rules.specs.Sizes.{hart_count, pid_top, name_size, page_size, address_top, size_top, first_device}
 use Rattle.rules.specs.Answers.{number_of}
 use Rattle.rules.specs.Model.{Table, at, hart_at, group_at, is, is_slot, known, same_group}
@@ -17,18 +16,18 @@ unfoldable pub some_slot : Table → (ℕ → Process → Bool) → Bool
 some_slot t test = passing test 0 t.core.slots
 
 -- of a slot, where there is one: what a hart runs, or init
-abbrev pub of_slot : Parent → (ℕ → Bool) → Bool
-of_slot Nobody ask = false
-of_slot (Of s) ask = ask s.0
+abbrev pub of_slot : Option Slot → (ℕ → Bool) → Bool
+of_slot None ask = false
+of_slot (Some s) ask = ask s.0
 
 -- of a group, where there is one
-abbrev pub of_group : Member → (ℕ → Bool) → Bool
-of_group Alone ask = false
-of_group (In g) ask = ask g
+abbrev pub of_group : Option ℕ → (ℕ → Bool) → Bool
+of_group None ask = false
+of_group (Some g) ask = ask g
 
-abbrev pub alone : Member → Bool
-alone Alone = true
-alone (In g) = false
+abbrev pub alone : Option ℕ → Bool
+alone None = true
+alone (Some g) = false
 
 abbrev pub outside : ℤ → Bool
 outside (pos n) = ltb size_top n
@@ -51,7 +50,7 @@ with_pid p q = not (is UNUSED q) && eqb q.meta.pid.0 p.0
 abbrev pub child : ℕ → Process → Bool
 child s q = is_slot s q.kin.parent && not q.kin.thread
 
-abbrev pub thread_with : Pid → Member → Process → Bool
+abbrev pub thread_with : Pid → Option ℕ → Process → Bool
 thread_with p m q = q.kin.thread && same_group m q.kin.group && eqb q.meta.pid.0 p.0
 
 unfoldable pub childless : Table → ℕ → Bool
@@ -140,18 +139,18 @@ due n (l ∷ ls) = cond (eqb n l.number) l.holds (due n ls)
 
 -- the first number of the order whose line holds
 unfoldable pub first_of : List ℕ → List Line → Option ℕ
-first_of [] ls = none
-first_of (n ∷ ns) ls = cond (due n ls) (some n) (first_of ns ls)
+first_of [] ls = None
+first_of (n ∷ ns) ls = cond (due n ls) (Some n) (first_of ns ls)
 
 -- ---- the number of a refusal, where an answer is one
 abbrev pub refusal_of : Answer → Option ℕ
-refusal_of Done = none
-refusal_of (Made p) = none
-refusal_of (Handed s) = none
-refusal_of (Reaped p x) = none
-refusal_of (Joined x) = none
-refusal_of Blocked = none
-refusal_of (Refused r) = some (number_of r)
+refusal_of (Ok Done) = None
+refusal_of (Ok (Made p)) = None
+refusal_of (Ok (Handed s)) = None
+refusal_of (Ok (Reaped p x)) = None
+refusal_of (Ok (Joined x)) = None
+refusal_of (Ok Blocked) = None
+refusal_of (Err r) = Some (number_of r)
 
 -- ---- which refusals spend a pid: a full table, and a fork without memory
 unfoldable pub forks : Call → Bool

@@ -1,7 +1,6 @@
 -- Whether some slot passes a test, as a scan finds it.
-use Rattle.std.specs.Prelude.{ℕ, zero, suc, ◌+◌, ◌<◌, ◌≡◌, refl, Bool, true, false, List, [], ◌∷◌, length, get_or}
+use Rattle.std.specs.Prelude.{ℕ, zero, suc, ◌+◌, ◌<◌, ◌≡◌, refl, Bool, true, false, List, [], ◌∷◌, length, get_or, Option, Some, None}
 use Rattle.std.proofs.Common.{arith, not-suc-le-zero, le_of_suc-le-suc}
-use Rattle.std.proofs.Math.Option.{Option, none, some}
 use Rattle.promises.specs.Types.{Process}
 use Rattle.rules.specs.Model.{Table, at, free}
 use Rattle.rules.specs.Moves.{lowest}
@@ -31,15 +30,15 @@ module _ (t : Table) where
   some-no test f = passing-no test 0 t.core.slots λ k j e r. let z : j ≡ k = omega (arith, e) in rw z (f k r)
 
   -- as a scan finds it
-  pub scan-none : (test : Process → Bool) → lowest test t.core.slots ≡ none → some_slot t (λ _. test) ≡ false
+  pub scan-none : (test : Process → Bool) → lowest test t.core.slots ≡ None → some_slot t (λ _. test) ≡ false
   scan-none test o = some-no (λ _. test) (lowest-none test t.core.slots free o)
 
-  pub scan-some : (test : Process → Bool) (i : ℕ) → lowest test t.core.slots ≡ some i → some_slot t (λ _. test) ≡ true
+  pub scan-some : (test : Process → Bool) (i : ℕ) → lowest test t.core.slots ≡ Some i → some_slot t (λ _. test) ≡ true
   scan-some test i o = some-yes (λ _. test) i (lowest-range test t.core.slots free i o) (lowest-passes test t.core.slots free i o)
 
   pub scan-any : (test : Process → Bool) → some_slot t (λ _. test) ≡ is_there (lowest test t.core.slots)
   scan-any test = go (lowest test t.core.slots) refl
     where
       go : (o : Option ℕ) → lowest test t.core.slots ≡ o → some_slot t (λ _. test) ≡ is_there o
-      go none o = scan-none test o
-      go (some i) o = scan-some test i o
+      go None o = scan-none test o
+      go (Some i) o = scan-some test i o

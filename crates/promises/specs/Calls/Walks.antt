@@ -1,8 +1,7 @@
 -- The parts of calls as chains of moves: wake, kill, reparent, and exit's reaping of ZOMBIE threads.
-use Rattle.std.specs.Prelude.{ℕ, ◌≡◌}
+use Rattle.std.specs.Prelude.{ℕ, ◌≡◌, Option, Some}
 use Rattle.std.proofs.Math.Bool.{false}
-use Rattle.std.proofs.Math.Option.{some}
-use Rattle.promises.specs.Types.{ZOMBIE, Member}
+use Rattle.promises.specs.Types.{ZOMBIE}
 use Rattle.rules.specs.Model.{Core, Table, at, is}
 use Rattle.rules.specs.Moves.{lowest}
 use Rattle.rules.specs.Calls.{thread_of}
@@ -21,5 +20,5 @@ pub record Spared (s : ℕ) (t u : Table) : Type 0 where
   pub pids : u.books.pids ≡ t.books.pids
 
 -- afterwards the lowest thread, if there is one, is live: each look that reaps leaves one thread fewer
-unfoldable pub Settled : Member → Table → Type 0
-Settled m t = (i : ℕ) → lowest (thread_of m) t.core.slots ≡ some i → is ZOMBIE (at t.core i) ≡ false
+unfoldable pub Settled : Option ℕ → Table → Type 0
+Settled m t = (i : ℕ) → lowest (thread_of m) t.core.slots ≡ Some i → is ZOMBIE (at t.core i) ≡ false

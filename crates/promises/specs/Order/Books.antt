@@ -1,19 +1,19 @@
 -- What changes of the books leave alone.
-use Rattle.std.specs.Prelude.{ℕ, ◌≡◌, refl}
-use Rattle.promises.specs.Types.{Member, Alone, In, Kin}
+use Rattle.std.specs.Prelude.{ℕ, ◌≡◌, refl, Option, Some, None}
+use Rattle.promises.specs.Types.{Kin}
 use Rattle.rules.specs.Model.{Books, Table, at}
 use Rattle.rules.specs.Moves.{leave_group, open_group, join_group, set_init, reap}
 use Rattle.promises.specs.Order.Chains.{Birth, of_init, of_system, of_child, of_thread}
 
-pub leave-init : (m : Member) (b : Books) → (leave_group m b).init ≡ b.init
+pub leave-init : (m : Option ℕ) (b : Books) → (leave_group m b).init ≡ b.init
 unfolding leave_group
-leave-init Alone b = refl
-leave-init (In g) b = refl
+leave-init None b = refl
+leave-init (Some g) b = refl
 
-pub leave-pids : (m : Member) (b : Books) → (leave_group m b).pids ≡ b.pids
+pub leave-pids : (m : Option ℕ) (b : Books) → (leave_group m b).pids ≡ b.pids
 unfolding leave_group
-leave-pids Alone b = refl
-leave-pids (In g) b = refl
+leave-pids None b = refl
+leave-pids (Some g) b = refl
 
 pub reap-pids : (s : ℕ) (t : Table) → (reap s t).books.pids ≡ t.books.pids
 unfolding reap

@@ -1,6 +1,6 @@
 -- The moves that calls are made of, each where it is allowed. Every call is a chain of these (Calls/Steps.antt).
-use Rattle.std.specs.Prelude.{ℕ, ◌≤◌, ◌<◌, ◌≡◌, ◌≢◌, ◌⊎◌, true, false, length}
-use Rattle.promises.specs.Types.{UNUSED, ALLOCATED, SLEEPING, ZOMBIE, Parent, Nobody, Of, Alone, In, Kin, Start}
+use Rattle.std.specs.Prelude.{ℕ, ◌≤◌, ◌<◌, ◌≡◌, ◌≢◌, ◌⊎◌, true, false, length, Option, Some, None}
+use Rattle.promises.specs.Types.{UNUSED, ALLOCATED, SLEEPING, ZOMBIE, Kin, Start, Slot}
 use Rattle.rules.specs.Sizes.{pid_top, name_size, size_top, own_channel, first_device}
 use Rattle.rules.specs.Model.{Core, Books, Table, at, hart_at, is, is_slot, known, slot, taken, to_killed, with_parent}
 use Rattle.rules.specs.Moves.{change, publish, idle, yield_on, sleep_on, zombie_on, sleeps_on, wake_of, new_group, open_group, join_group, resize, set_init, reap}
@@ -12,7 +12,7 @@ unfoldable pub on_core : (Core → Core) → Table → Table
 on_core f t = record { core = f t.core; books = t.books }
 
 abbrev pub runs : Table → ℕ → ℕ → Type 0
-runs t h s = hart_at t.core h ≡ Of (slot s)
+runs t h s = hart_at t.core h ≡ Some (slot s)
 
 -- where a caller s may lie down: on a device, in wait with no ZOMBIE child, or on a live thread of its own process
 pub data Bed (t : Table) (s : ℕ) : ℕ → Type 0 where
@@ -38,12 +38,12 @@ pub record Vacant (t : Table) (s : ℕ) : Type 0 where
 -- who may be born into slot s, and what becomes of the books
 pub data Birth (t : Table) (s : ℕ) : Kin → Books → Type 0 where
   of_init : known t.books.init ≡ false → (size : ℕ) → size ≤ size_top
-      → Birth t s (record { group = In (new_group t.books); parent = Nobody; thread = false; system = false }) (set_init s (open_group size t.books))
-  of_system : Birth t s (record { group = Alone; parent = Nobody; thread = false; system = true }) t.books
+      → Birth t s (record { group = Some (new_group t.books); parent = None; thread = false; system = false }) (set_init s (open_group size t.books))
+  of_system : Birth t s (record { group = None; parent = None; thread = false; system = true }) t.books
   of_child : known t.books.init ≡ true → (q : ℕ) → Elder (at t.core q) → (size : ℕ) → size ≤ size_top
-      → Birth t s (record { group = In (new_group t.books); parent = Of (slot q); thread = false; system = false }) (open_group size t.books)
-  of_thread : known t.books.init ≡ true → (g : ℕ) (q : Parent) → known q ≡ true → ((x : ℕ) → is_slot x q ≡ true → Elder (at t.core x)) → (j : ℕ) → j < length t.core.slots → names g (at t.core j) ≡ true
-      → Birth t s (record { group = In g; parent = q; thread = true; system = false }) (join_group g t.books)
+      → Birth t s (record { group = Some (new_group t.books); parent = Some (slot q); thread = false; system = false }) (open_group size t.books)
+  of_thread : known t.books.init ≡ true → (g : ℕ) (q : Option Slot) → known q ≡ true → ((x : ℕ) → is_slot x q ≡ true → Elder (at t.core x)) → (j : ℕ) → j < length t.core.slots → names g (at t.core j) ≡ true
+      → Birth t s (record { group = Some g; parent = q; thread = true; system = false }) (join_group g t.books)
 
 pub data Move : Table → Table → Type 0 where
   -- from ALLOCATED or SLEEPING; a RUNNING slot is published by yielding

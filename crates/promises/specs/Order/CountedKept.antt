@@ -1,13 +1,12 @@
 -- Each move keeps every group's count the number of slots that name it; and an UNUSED slot means an empty group.
-use Rattle.std.specs.Prelude.{ℕ, ◌+◌, ◌-◌, ◌≤◌, ◌<◌, ◌≡◌, ◌≢◌, Bool, true, cond, List, [], ◌∷◌, set, eqb, leb}
+use Rattle.std.specs.Prelude.{ℕ, ◌+◌, ◌-◌, ◌≤◌, ◌<◌, ◌≡◌, ◌≢◌, Bool, true, cond, List, [], ◌∷◌, set, eqb, leb, Option, Some, None}
 use native.Mathlib.Omega.{arith}
 use Rattle.std.proofs.Math.Path.{refl, ap, subst}
 use Rattle.std.proofs.Common.{sym, ◌∙◌, length-set, get_or-set_same, get_or-set_other}
 use Rattle.std.proofs.Math.Bool.{false}
-use Rattle.std.proofs.Math.Option.{Option, none, some}
 use Rattle.std.proofs.Math.ListN.{length, get_or-eq_default}
 use borrow.Author.Tests.{eqb-true, eqb-false, eq-eqb, ne_eqb, leb-true, leb-false}
-use Rattle.promises.specs.Types.{UNUSED, Member, Alone, In, Process, Kin, Group}
+use Rattle.promises.specs.Types.{UNUSED, Process, Kin, Group}
 use Rattle.rules.specs.Sizes.{slot_count, group_count, size_top}
 use Rattle.rules.specs.Model.{Core, Books, Table, at, group_at, no_group, free, taken, is, same_group}
 use Rattle.rules.specs.Moves.{change, lowest, set_group, empty_group, or_zero, new_group, open_group, join_group, less, leave_group, resize, set_init, spend, to_free, reap}
@@ -20,15 +19,15 @@ use Rattle.promises.specs.Order.States.{used-range}
 use Rattle.promises.specs.Order.Chains.{Birth, of_init, of_system, of_child, of_thread}
 use Rattle.promises.specs.Order.Alike.{Alikes, View, stirs, spends, fills, frees, resizes}
 
-free-alone : free.kin.group ≡ Alone
+free-alone : free.kin.group ≡ None
 unfolding free
 free-alone = refl
 
 -- ---- an UNUSED slot means an empty group
 -- each slot names one group at the most
-one-group : (n : ℕ) (m : Member) → sum_to (λ g. ind (same_group (In g) m)) n ≤ ind (is_in m)
-one-group n Alone = omega (arith, sum-zero n)
-one-group n (In h) = sum-once h n
+one-group : (n : ℕ) (m : Option ℕ) → sum_to (λ g. ind (same_group (Some g) m)) n ≤ ind (is_in m)
+one-group n None = omega (arith, sum-zero n)
+one-group n (Some h) = sum-once h n
 
 all-groups : (n : ℕ) (l : List Process) → sum_to (λ g. tally (names g) l) n ≤ tally (λ p. is_in p.kin.group) l
 unfolding tally
@@ -36,12 +35,12 @@ all-groups n [] = omega (arith, sum-zero n)
 all-groups n (x ∷ l) = omega (arith, sum-add (λ g. ind (names g x)) (λ g. tally (names g) l) n, one-group n x.kin.group, all-groups n l)
 
 pub record Empty (b : Books) : Type 0 where
-  pub found : lowest empty_group b.groups ≡ some (new_group b)
+  pub found : lowest empty_group b.groups ≡ Some (new_group b)
   pub range : new_group b < length b.groups
   pub empty : (group_at b (new_group b)).count ≡ 0
 
-module _ (c : Core) (b : Books) (s : ℕ) (w : Counted c b) (tall : length c.slots ≡ slot_count) (r : s < length c.slots) (alone : (at c s).kin.group ≡ Alone) where
-  some-empty : lowest empty_group b.groups ≡ none → ⊥
+module _ (c : Core) (b : Books) (s : ℕ) (w : Counted c b) (tall : length c.slots ≡ slot_count) (r : s < length c.slots) (alone : (at c s).kin.group ≡ None) where
+  some-empty : lowest empty_group b.groups ≡ None → ⊥
   unfolding group_count
   some-empty e = omega (
     arith,
@@ -61,11 +60,11 @@ module _ (c : Core) (b : Books) (s : ℕ) (w : Counted c b) (tall : length c.slo
   group-had = go (lowest empty_group b.groups) refl
     where
       go : (o : Option ℕ) → lowest empty_group b.groups ≡ o → Empty b
-      go none e = absurd (some-empty e)
-      go (some i) e =
+      go None e = absurd (some-empty e)
+      go (Some i) e =
           let z : new_group b ≡ i = ap or_zero e in
           record {
-            found = e ∙ ap some (sym z);
+            found = e ∙ ap Some (sym z);
             range = subst (λ (n : ℕ). n < length b.groups) (sym z) (lowest-range empty_group b.groups no_group i e);
             empty = subst (λ (n : ℕ). (group_at b n).count ≡ 0) (sym z) (eqb-true (group_at b i).count 0 (lowest-passes empty_group b.groups no_group i e));
           }
@@ -86,7 +85,7 @@ module _ (c : Core) (b : Books) (w : Counted c b) (j g : ℕ) (r : j < length c.
 counted-alike : (c d : Core) (b : Books) → Alikes c.slots d.slots → Counted c b → Counted d b
 counted-alike c d b k w = record {
   tall = w.tall;
-  count = λ g. w.count g ∙ sym (tally-same (names g) d.slots c.slots free k.long (λ j. ap (same_group (In g)) (k.all j).group));
+  count = λ g. w.count g ∙ sym (tally-same (names g) d.slots c.slots free k.long (λ j. ap (same_group (Some g)) (k.all j).group));
   empty = w.empty;
   top = w.top;
 }
@@ -121,31 +120,31 @@ module _ (c d : Core) (b : Books) (g : ℕ) (x : Group) (r : g < length b.groups
       most h false t = rw (other h t) (w.top h)
 
 -- slot s is replaced by y: how the counts move
-module _ (c : Core) (s : ℕ) (y : Process) (r : s < length c.slots) (a b : Member) (old : (at c s).kin.group ≡ a) (new : y.kin.group ≡ b) where
-  moved : (h : ℕ) → tally (names h) (set c.slots s y) + ind (same_group (In h) a) ≡ tally (names h) c.slots + ind (same_group (In h) b)
+module _ (c : Core) (s : ℕ) (y : Process) (r : s < length c.slots) (a b : Option ℕ) (old : (at c s).kin.group ≡ a) (new : y.kin.group ≡ b) where
+  moved : (h : ℕ) → tally (names h) (set c.slots s y) + ind (same_group (Some h) a) ≡ tally (names h) c.slots + ind (same_group (Some h) b)
   moved h = omega (
     arith,
     tally-set (names h) c.slots s y free r,
-    ap (λ (m : Member). ind (same_group (In h) m)) old,
-    ap (λ (m : Member). ind (same_group (In h) m)) new,
+    ap (λ (m : Option ℕ). ind (same_group (Some h) m)) old,
+    ap (λ (m : Option ℕ). ind (same_group (Some h) m)) new,
   )
 
-counted-alone : (c d : Core) (b : Books) (s : ℕ) (y : Process) → d.slots ≡ set c.slots s y → s < length c.slots → (at c s).kin.group ≡ Alone → y.kin.group ≡ Alone
+counted-alone : (c d : Core) (b : Books) (s : ℕ) (y : Process) → d.slots ≡ set c.slots s y → s < length c.slots → (at c s).kin.group ≡ None → y.kin.group ≡ None
     → Counted c b → Counted d b
 counted-alone c d b s y q r old new w = record {
   tall = w.tall;
-  count = λ h. rw q (omega (arith, w.count h, moved c s y r Alone Alone old new h));
+  count = λ h. rw q (omega (arith, w.count h, moved c s y r None None old new h));
   empty = w.empty;
   top = w.top;
 }
 
 -- a slot in no group comes to group g, whose count goes up by one
-counted-in : (c : Core) (b : Books) (s : ℕ) (p : Process) (g : ℕ) (x : Group) → s < length c.slots → (at c s).kin.group ≡ Alone → p.kin.group ≡ In g → g < length b.groups
+counted-in : (c : Core) (b : Books) (s : ℕ) (p : Process) (g : ℕ) (x : Group) → s < length c.slots → (at c s).kin.group ≡ None → p.kin.group ≡ Some g → g < length b.groups
     → x.count ≡ (group_at b g).count + 1 → x.size ≤ size_top → Counted c b → Counted (fill s p c) (set_group g x b)
 unfolding fill change
 counted-in c b s p g x r old new q e m w = counted-put c (fill s p c) b g x q
-    (omega (arith, e, w.count g, moved c s p r Alone (In g) old new g, ap ind (eq-eqb g g refl)))
-    (λ h n. omega (arith, moved c s p r Alone (In g) old new h, ap ind (ne_eqb h g n)))
+    (omega (arith, e, w.count g, moved c s p r None (Some g) old new g, ap ind (eq-eqb g g refl)))
+    (λ h n. omega (arith, moved c s p r None (Some g) old new h, ap ind (ne_eqb h g n)))
     (λ z. absurd (omega (arith, e)))
     m w
 
@@ -176,18 +175,18 @@ counted-free : (c : Core) (b : Books) (s : ℕ) → s < length c.slots → Count
 unfolding leave_group change
 counted-free c b s r w = go (at c s).kin.group refl
   where
-    go : (m : Member) → (at c s).kin.group ≡ m → Counted (change to_free s c) (leave_group m b)
-    go Alone e = counted-alone c (change to_free s c) b s free refl r e free-alone w
-    go (In g) e =
-        let name : names g (at c s) ≡ true = ap (same_group (In g)) e ∙ eq-eqb g g refl in
+    go : (m : Option ℕ) → (at c s).kin.group ≡ m → Counted (change to_free s c) (leave_group m b)
+    go None e = counted-alone c (change to_free s c) b s free refl r e free-alone w
+    go (Some g) e =
+        let name : names g (at c s) ≡ true = ap (same_group (Some g)) e ∙ eq-eqb g g refl in
         counted-put c (change to_free s c) b g (less (group_at b g)) (named-range c b w s g r name)
-        (omega (arith, less-count (group_at b g), w.count g, moved c s free r (In g) Alone e free-alone g, ap ind (eq-eqb g g refl)))
-        (λ h n. omega (arith, moved c s free r (In g) Alone e free-alone h, ap ind (ne_eqb h g n)))
+        (omega (arith, less-count (group_at b g), w.count g, moved c s free r (Some g) None e free-alone g, ap ind (eq-eqb g g refl)))
+        (λ h n. omega (arith, moved c s free r (Some g) None e free-alone h, ap ind (ne_eqb h g n)))
         (less-empty (group_at b g)) (less-top (group_at b g) (w.top g)) w
 
 -- ---- births
-module _ (t : Table) (tall : length t.core.slots ≡ slot_count) (w : Counted t.core t.books) (s : ℕ) (r : s < length t.core.slots) (alone : (at t.core s).kin.group ≡ Alone) where
-  open-counted : (p : Process) (size : ℕ) → size ≤ size_top → p.kin.group ≡ In (new_group t.books) → Counted (fill s p t.core) (open_group size t.books)
+module _ (t : Table) (tall : length t.core.slots ≡ slot_count) (w : Counted t.core t.books) (s : ℕ) (r : s < length t.core.slots) (alone : (at t.core s).kin.group ≡ None) where
+  open-counted : (p : Process) (size : ℕ) → size ≤ size_top → p.kin.group ≡ Some (new_group t.books) → Counted (fill s p t.core) (open_group size t.books)
   unfolding open_group
   open-counted p size m e =
       let h = group-had t.core t.books s w tall r alone in

@@ -1,9 +1,9 @@
 -- Each move keeps that whoever has a parent has one that is there.
-use Rattle.std.specs.Prelude.{ℕ, ◌≡◌, ◌≢◌, ◌⊎◌, Bool, List, get_or, set}
+use Rattle.std.specs.Prelude.{ℕ, ◌≡◌, ◌≢◌, ◌⊎◌, Bool, List, get_or, set, Option, None}
 use Rattle.std.proofs.Math.Path.{refl}
 use Rattle.std.proofs.Common.{ap, ◌∙◌, inl, inr, get_or-set_other, eqb-true}
 use Rattle.std.proofs.Math.Bool.{true, false}
-use Rattle.promises.specs.Types.{UNUSED, ZOMBIE, Parent, Nobody, Process, Kin, Start}
+use Rattle.promises.specs.Types.{UNUSED, ZOMBIE, Process, Kin, Start, Slot}
 use Rattle.rules.specs.Model.{Core, Books, Table, at, free, taken, is, is_slot, to_runnable, to_running, to_sleeping, to_zombie, to_killed, with_parent}
 use Rattle.rules.specs.Moves.{change, publish, hand, idle, yield_on, sleep_on, zombie_on, reap}
 use Rattle.rules.specs.Calls.{fill, spent}
@@ -75,7 +75,7 @@ module _ (t : Table) (s n : ℕ) (b : Start) (u : is UNUSED (at t.core s) ≡ tr
       go j true f = absurd (elder-apart s (w.elder j s f) refl)
       go j false f = refl
 
-  nobody : (q : ℕ) → is_slot q Nobody ≡ true → Elder (at t.core q)
+  nobody : (q : ℕ) → is_slot q None ≡ true → Elder (at t.core q)
   nobody q f = absurd (clash {b = false} f refl)
 
   birth-raised : {k : Kin} {d : Books} → Birth t s k d → Raised (fill s (taken n k b) t.core)
@@ -85,7 +85,7 @@ module _ (t : Table) (s n : ℕ) (b : Start) (u : is UNUSED (at t.core s) ≡ tr
   birth-raised (of_thread _ _ q _ o _ _ _) = born-raised _ o
 
 -- ---- a slot gets init as its parent
-adopt-raised : (init : Parent) (i : ℕ) (c : Core) → ((q : ℕ) → is_slot q init ≡ true → Elder (at c q)) → Raised c → Raised (change (with_parent init) i c)
+adopt-raised : (init : Option Slot) (i : ℕ) (c : Core) → ((q : ℕ) → is_slot q init ≡ true → Elder (at c q)) → Raised c → Raised (change (with_parent init) i c)
 unfolding change
 adopt-raised init i c o w = record { elder = λ s q e. kept q (go s q e (set_cases c.slots i (with_parent init (at c i)) free s)) }
   where

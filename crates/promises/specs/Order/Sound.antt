@@ -1,6 +1,6 @@
 -- What every table has that came from a fresh one by calls.
-use Rattle.std.specs.Prelude.{ℕ, ◌≤◌, ◌<◌, ◌≡◌, ◌≢◌, Bool, true, false, length, eqb}
-use Rattle.promises.specs.Types.{UNUSED, RUNNABLE, RUNNING, ZOMBIE, Parent, Nobody, Of, Member, Alone, In, Process}
+use Rattle.std.specs.Prelude.{ℕ, ◌≤◌, ◌<◌, ◌≡◌, ◌≢◌, Bool, true, false, length, eqb, Option, Some, None}
+use Rattle.promises.specs.Types.{UNUSED, RUNNABLE, RUNNING, ZOMBIE, Process, Slot}
 use Rattle.rules.specs.Sizes.{slot_count, group_count, hart_count, pid_top, name_size, size_top, own_channel}
 use Rattle.rules.specs.Model.{Core, Books, Table, at, group_at, free, is, is_slot, known, same_group}
 use Rattle.rules.specs.Moves.{sleeps_on}
@@ -22,18 +22,18 @@ pub record Numbered (c : Core) (n : ℕ) : Type 0 where
   pub once : (i j : ℕ) → is UNUSED (at c i) ≡ false → is UNUSED (at c j) ≡ false → (at c i).meta.pid.0 ≡ (at c j).meta.pid.0 → i ≡ j
   pub top : n ≤ pid_top
 
-abbrev pub is_in : Member → Bool
-is_in Alone = false
-is_in (In g) = true
+abbrev pub is_in : Option ℕ → Bool
+is_in None = false
+is_in (Some g) = true
 
 -- a parent, a hart's slot or init, and a group, that the table has
-abbrev pub InTable : Parent → Type 0
-InTable Nobody = Unit {0}
-InTable (Of s) = s.0 < slot_count
+abbrev pub InTable : Option Slot → Type 0
+InTable None = Unit {0}
+InTable (Some s) = s.0 < slot_count
 
-abbrev pub InGroups : Member → Type 0
-InGroups Alone = Unit {0}
-InGroups (In g) = g < group_count
+abbrev pub InGroups : Option ℕ → Type 0
+InGroups None = Unit {0}
+InGroups (Some g) = g < group_count
 
 -- a slot that others may have as their parent
 pub record Elder (p : Process) : Type 0 where
@@ -49,14 +49,14 @@ pub record Raised (c : Core) : Type 0 where
 pub record First (p : Process) : Type 0 where
   pub elder : Elder p
   pub leads : p.kin.thread ≡ false
-  pub orphan : p.kin.parent ≡ Nobody
+  pub orphan : p.kin.parent ≡ None
 
 -- what holds of slot s by itself, given where init is
-pub record Tidy (init : Parent) (s : ℕ) (p : Process) : Type 0 where
+pub record Tidy (init : Option Slot) (s : ℕ) (p : Process) : Type 0 where
   pub unused : is UNUSED p ≡ true → p ≡ free
   pub name : length p.start.name ≡ name_size
   -- a system thread stands alone, and is never ZOMBIE
-  pub lone : p.kin.system ≡ true → (p.kin.group ≡ Alone) × (p.kin.parent ≡ Nobody) × (p.kin.thread ≡ false) × (is ZOMBIE p ≡ false)
+  pub lone : p.kin.system ≡ true → (p.kin.group ≡ None) × (p.kin.parent ≡ None) × (p.kin.thread ≡ false) × (is ZOMBIE p ≡ false)
   -- a user slot has a group, came after init, and has a parent unless it is init
   pub group : is UNUSED p ≡ false → p.kin.system ≡ false → is_in p.kin.group ≡ true
   pub after : is UNUSED p ≡ false → p.kin.system ≡ false → known init ≡ true
@@ -64,7 +64,7 @@ pub record Tidy (init : Parent) (s : ℕ) (p : Process) : Type 0 where
   pub first : is_slot s init ≡ true → First p
 
 abbrev pub names : ℕ → Process → Bool
-names g p = same_group (In g) p.kin.group
+names g p = same_group (Some g) p.kin.group
 
 -- a group's count is the number of slots that name it, ZOMBIE ones included; at count 0 its size is 0, and it is never past the top
 pub record Counted (c : Core) (b : Books) : Type 0 where

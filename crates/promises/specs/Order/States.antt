@@ -1,7 +1,7 @@
 -- What a slot's state says: one excludes the others, a used slot is in range, what a hart runs is RUNNING.
-use Rattle.std.specs.Prelude.{ℕ, zero, suc, ◌<◌, ◌≡◌, refl, ◌⊎◌, true, false, List, [], ◌∷◌, length, get_or, eqb}
+use Rattle.std.specs.Prelude.{ℕ, zero, suc, ◌<◌, ◌≡◌, refl, ◌⊎◌, true, false, List, [], ◌∷◌, length, get_or, eqb, Option, Some, None}
 use Rattle.std.proofs.Common.{arith, zero-lt-suc, sym, ap, ◌∙◌, inl, inr, eqb-true, eq-eqb}
-use Rattle.promises.specs.Types.{Slot, ProcState, UNUSED, ALLOCATED, RUNNABLE, RUNNING, SLEEPING, ZOMBIE, Parent, Nobody, Of, Process}
+use Rattle.promises.specs.Types.{Slot, ProcState, UNUSED, ALLOCATED, RUNNABLE, RUNNING, SLEEPING, ZOMBIE, Process}
 use Rattle.rules.specs.Model.{Core, at, hart_at, free, is, is_slot, known, slot, state_code}
 use Rattle.promises.specs.Laws.Bools.{clash}
 use Rattle.promises.specs.Laws.Counts.{ind-true, tally, tally-one}
@@ -31,17 +31,17 @@ quiet p (inl e) = record { used = other ALLOCATED UNUSED p e; ready = other ALLO
 quiet p (inr e) = record { used = other SLEEPING UNUSED p e; ready = other SLEEPING RUNNABLE p e; busy = other SLEEPING RUNNING p e; live = other SLEEPING ZOMBIE p e }
 
 -- ---- harts
-pub hart-range : (l : List Parent) (h : ℕ) (x : Slot) → get_or l h Nobody ≡ Of x → h < length l
-hart-range [] h x e = absurd (clash {b = known Nobody} (ap known e) refl)
+pub hart-range : (l : List (Option Slot)) (h : ℕ) (x : Slot) → get_or l h None ≡ Some x → h < length l
+hart-range [] h x e = absurd (clash {b = known None} (ap known e) refl)
 hart-range (y ∷ l) zero x e = zero-lt-suc (length l)
 hart-range (y ∷ l) (suc h) x e = omega (arith, hart-range l h x e)
 
-module _ (h s : ℕ) (c : Core) (v : Queued c) (e : hart_at c h ≡ Of (slot s)) where
+module _ (h s : ℕ) (c : Core) (v : Queued c) (e : hart_at c h ≡ Some (slot s)) where
   pub runs-running : is RUNNING (at c s) ≡ true
   runs-running = ind-true (is RUNNING (at c s)) (omega (
     arith,
     v.harts s,
-    tally-one (is_slot s) c.harts Nobody h (hart-range c.harts h (slot s) e) (ap (is_slot s) e ∙ eq-eqb s s refl),
+    tally-one (is_slot s) c.harts None h (hart-range c.harts h (slot s) e) (ap (is_slot s) e ∙ eq-eqb s s refl),
   ))
 
   pub runs-used : is UNUSED (at c s) ≡ false

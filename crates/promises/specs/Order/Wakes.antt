@@ -1,10 +1,10 @@
 -- What a wake leaves alone, and that nobody sleeps on its channel afterwards.
-use Rattle.std.specs.Prelude.{ℕ, ◌<◌, ◌≡◌, ◌⊎◌, Bool, List, length, get_or, set, leb}
+use Rattle.std.specs.Prelude.{ℕ, ◌<◌, ◌≡◌, ◌⊎◌, Bool, List, length, get_or, set, leb, Option, Some, None}
 use Rattle.std.proofs.Common.{arith, sym, ◌∙◌, inl, inr, get_or-set_same, leb-true, leb-false}
 use Rattle.std.proofs.Math.Path.{refl, ap}
 use Rattle.std.proofs.Math.Bool.{true, false}
 use Rattle.std.proofs.Math.ListN.{get_or-eq_default}
-use Rattle.promises.specs.Types.{UNUSED, SLEEPING, ZOMBIE, Parent, Nobody, Of, Process}
+use Rattle.promises.specs.Types.{UNUSED, SLEEPING, ZOMBIE, Process, Slot}
 use Rattle.rules.specs.Sizes.{slot_count, own_channel}
 use Rattle.rules.specs.Model.{Core, at, free, is, to_runnable}
 use Rattle.rules.specs.Moves.{change, publish, sweep, publish_if, sleeps_on, wake_one, wake, wake_of}
@@ -97,10 +97,10 @@ wake-empties ch c tall j = go (leb slot_count j) refl
     go false e = below-awake ch slot_count c j (leb-false slot_count j e)
 
 -- what a wake keeps, whoever is woken, the wake of a slot keeps, if there is one
-pub wake_of-any : (I : Core → Type 0) (c : Core) → I c → ((ch : ℕ) → I (wake ch c)) → (p : Parent) → I (wake_of p c)
+pub wake_of-any : (I : Core → Type 0) (c : Core) → I c → ((ch : ℕ) → I (wake ch c)) → (p : Option Slot) → I (wake_of p c)
 unfolding wake_of
-wake_of-any I c v k Nobody = v
-wake_of-any I c v k (Of s) = k (own_channel s.0)
+wake_of-any I c v k None = v
+wake_of-any I c v k (Some s) = k (own_channel s.0)
 
-pub wake_of-calm : (p : Parent) (c : Core) (j : ℕ) → Calm (at c j) (at (wake_of p c) j)
+pub wake_of-calm : (p : Option Slot) (c : Core) (j : ℕ) → Calm (at c j) (at (wake_of p c) j)
 wake_of-calm p c j = wake_of-any (λ (d : Core). Calm (at c j) (at d j)) c (calm-same (at c j)) (λ ch. wake-calm ch c j) p

@@ -26,7 +26,7 @@ write-requires c =
 
 pub overflow_add-at : goal.overflow_add-at
 overflow_add-at c =
-    omega (arith, call-in _ _ _ _ _ c.loop-n.invariant _ (first-call c.args.calls.now c.loop-n.at c.first.result c.first.ensures c.in-Is.is))
+    omega (arith, call-in _ _ _ _ _ c.loop-n.invariant _ (first-call c.args.calls.now c.loop-n.at c.first.result c.first.ensures c.in-Some.is))
 
 pub overflow_add-to : goal.overflow_add-to
 overflow_add-to c =
@@ -34,7 +34,7 @@ overflow_add-to c =
 
 pub loop-n-preserved : goal.loop-n-preserved
 loop-n-preserved c =
-    next _ _ _ _ _ c.loop-n.invariant _ (first-call c.args.calls.now c.loop-n.at c.first.result c.first.ensures c.in-Is.is) c.loop-n-test.true (most-fits c.args.out.now c.least-most.ensures.1) c.step-a.ensures c.write.ensures c.write.auto.b
+    next _ _ _ _ _ c.loop-n.invariant _ (first-call c.args.calls.now c.loop-n.at c.first.result c.first.ensures c.in-Some.is) c.loop-n-test.true (most-fits c.args.out.now c.least-most.ensures.1) c.step-a.ensures c.write.ensures c.write.auto.b
 
 pub returns : goal.returns
 returns c = ended _ _ _ _ _ c.loop-n.invariant c.least-most.ensures.0 (all_done _ _ _ _ _ c.loop-n.invariant c.loop-n-test.false)

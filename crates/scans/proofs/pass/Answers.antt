@@ -28,5 +28,5 @@ returns-in-ThreadOf c = cc
 pub returns-in-ThreadNamed : goal.returns-in-ThreadNamed
 unfolding passes
 returns-in-ThreadNamed c =
-    c.thread_named.ensures
+    c.is_thread_named.ensures
     ∙ ap (λ (x : Test). passes x (at (table_of c.args.t.now).core c.args.i)) (sym c.in-ThreadNamed.is)

@@ -14,10 +14,10 @@ pub hart_at-p-requires : goal.hart_at-p-requires
 unfolding hart_count
 hart_at-p-requires c = omega arith
 
-pub returns-in-Of : goal.returns-in-Of
+pub returns-in-Some : goal.returns-in-Some
 unfolding hart_count
-returns-in-Of c =
-    did c.requires (dispatch-busy (table_of c.args.t.now) _ {s = c.in-Of.field-0} (omega arith) (sym c.hart_at-p.ensures.0 ∙ c.in-Of.is))
+returns-in-Some c =
+    did c.requires (dispatch-busy (table_of c.args.t.now) _ {s = c.in-Some.field-0} (omega arith) (sym c.hart_at-p.ensures.0 ∙ c.in-Some.is))
 
 pub returns-then-waiting-eq0 : goal.returns-then-waiting-eq0
 unfolding hart_count

@@ -7,12 +7,12 @@ use Rattle.sched.proofs.kill.Goals as goal
 
 pub slay-requires : goal.slay-requires
 slay-requires c =
-    (omega (arith, subst InRange c.in-At.is c.find-f.ensures.1), c.requires.queued)
+    (omega (arith, subst InRange c.in-Some.is c.with_pid-f.ensures.1), c.requires.queued)
 
-pub returns-in-Nothing : goal.returns-in-Nothing
-returns-in-Nothing c =
-    did c.requires (kill-no (table_of c.args.t.now) c.args.pid c.find-f.result c.find-f.ensures.0 (cc))
+pub returns-in-None : goal.returns-in-None
+returns-in-None c =
+    did c.requires (kill-no (table_of c.args.t.now) c.args.pid c.with_pid-f.result c.with_pid-f.ensures.0 (cc))
 
-pub returns-in-At : goal.returns-in-At
-returns-in-At c =
-    did c.requires (kill-is (table_of c.args.t.now) c.args.pid c.find-f.result c.find-f.ensures.0 (sym c.in-At.is) c.slay.ensures)
+pub returns-in-Some : goal.returns-in-Some
+returns-in-Some c =
+    did c.requires (kill-is (table_of c.args.t.now) c.args.pid c.with_pid-f.result c.with_pid-f.ensures.0 (sym c.in-Some.is) c.slay.ensures)

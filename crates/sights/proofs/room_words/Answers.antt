@@ -1,10 +1,10 @@
 use Rattle.sights.specs.Sights.{room_words}
 use Rattle.sights.proofs.room_words.Goals as goal
 
-pub returns-in-Fits : goal.returns-in-Fits
+pub returns-in-Ok : goal.returns-in-Ok
 unfolding room_words
-returns-in-Fits c = rw c.in-Fits.is
+returns-in-Ok c = rw c.in-Ok.is
 
-pub returns-in-Short : goal.returns-in-Short
+pub returns-in-Err : goal.returns-in-Err
 unfolding room_words
-returns-in-Short c = rw c.in-Short.is c.words_of.ensures
+returns-in-Err c = rw c.in-Err.is c.words_of.ensures

@@ -20,4 +20,4 @@ returns-in_default c =
 pub returns : goal.returns
 unfolding hart_count
 returns c =
-    (caller-is _ _ (omega arith) (sym c.hart_at-p.ensures.0 ∙ c.in-Of.is), (subst InTable c.in-Of.is c.hart_at-p.ensures.1, omega arith))
+    (caller-is _ _ (omega arith) (sym c.hart_at-p.ensures.0 ∙ c.in-Some.is), (subst InTable c.in-Some.is c.hart_at-p.ensures.1, omega arith))

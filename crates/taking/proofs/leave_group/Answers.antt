@@ -9,8 +9,8 @@ returns-in_default c =
 
 pub leave-requires : goal.leave-requires
 leave-requires c =
-    subst InGroups c.in-In.is c.requires
+    subst InGroups c.in-Some.is c.requires
 
 pub returns : goal.returns
 returns c =
-    c.leave.ensures ∙ leave-in (table_of c.args.t.now) c.args.m _ c.in-In.is
+    c.leave.ensures ∙ leave-in (table_of c.args.t.now) c.args.m _ c.in-Some.is

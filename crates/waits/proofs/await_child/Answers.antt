@@ -9,8 +9,8 @@ returns-then-m c =
 
 pub returns-in_default : goal.returns-in_default
 returns-in_default c =
-    childless (table_of c.args.t.now) c.args.hart c.args.wish c.args.caller c.find.result c.find.ensures.0 (cc)
+    childless (table_of c.args.t.now) c.args.hart c.args.wish c.args.caller c.child_of.result c.child_of.ensures.0 (cc)
 
 pub returns : goal.returns
 returns c =
-    let a = c.args in child-awaited (table_of a.t.now) a.hart a.wish a.caller c.find.result c.find.ensures.0 (sym c.in-At.is) c.meta_at-m.ensures c.if-m.false (rw c.own_channel.ensures at c.sleep_on.ensures)
+    let a = c.args in child-awaited (table_of a.t.now) a.hart a.wish a.caller c.child_of.result c.child_of.ensures.0 (sym c.in-Some.is) c.meta_at-m.ensures c.if-m.false (rw c.own_channel.ensures at c.sleep_on.ensures)

@@ -11,16 +11,16 @@ returns-in_default c =
 
 pub returns-then-own-pid : goal.returns-then-own-pid
 returns-then-own-pid c =
-    by_itself (table_of c.args.t.now) c.args.hart c.args.pid c.args.wish c.args.caller (sym c.in-In.is ∙ ap (λ (k : Kin). k.group) c.kin_at-k.ensures.0) c.meta_at-m.ensures c.if-own-pid.true
+    by_itself (table_of c.args.t.now) c.args.hart c.args.pid c.args.wish c.args.caller (sym c.in-Some.is ∙ ap (λ (k : Kin). k.group) c.kin_at-k.ensures.0) c.meta_at-m.ensures c.if-own-pid.true
 
 pub join_to-requires : goal.join_to-requires
 join_to-requires c =
-    (c.requires.0, c.requires.1, subst InRange c.in-At.is c.find.ensures.1)
+    (c.requires.0, c.requires.1, subst InRange c.in-Some-thread_named.is c.thread_named.ensures.1)
 
-pub returns-in-Nothing : goal.returns-in-Nothing
-returns-in-Nothing c =
-    by-none (table_of c.args.t.now) c.args.hart c.args.pid c.args.wish c.args.caller (sym c.in-In.is ∙ ap (λ (k : Kin). k.group) c.kin_at-k.ensures.0) c.meta_at-m.ensures (ne_eqb _ _ c.if-own-pid.false) c.find.result c.find.ensures.0 (cc)
+pub returns-in-None : goal.returns-in-None
+returns-in-None c =
+    by-none (table_of c.args.t.now) c.args.hart c.args.pid c.args.wish c.args.caller (sym c.in-Some.is ∙ ap (λ (k : Kin). k.group) c.kin_at-k.ensures.0) c.meta_at-m.ensures (ne_eqb _ _ c.if-own-pid.false) c.thread_named.result c.thread_named.ensures.0 (cc)
 
-pub returns-in-At : goal.returns-in-At
-returns-in-At c =
-    by-thread (table_of c.args.t.now) c.args.hart c.args.pid c.args.wish c.args.caller (sym c.in-In.is ∙ ap (λ (k : Kin). k.group) c.kin_at-k.ensures.0) c.meta_at-m.ensures (ne_eqb _ _ c.if-own-pid.false) c.find.result c.find.ensures.0 (sym c.in-At.is) c.join_to.ensures
+pub returns-in-Some-thread_named : goal.returns-in-Some-thread_named
+returns-in-Some-thread_named c =
+    by-thread (table_of c.args.t.now) c.args.hart c.args.pid c.args.wish c.args.caller (sym c.in-Some.is ∙ ap (λ (k : Kin). k.group) c.kin_at-k.ensures.0) c.meta_at-m.ensures (ne_eqb _ _ c.if-own-pid.false) c.thread_named.result c.thread_named.ensures.0 (sym c.in-Some-thread_named.is) c.join_to.ensures

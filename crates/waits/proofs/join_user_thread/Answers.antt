@@ -7,12 +7,12 @@ use Rattle.waits.proofs.join_user_thread.Goals as goal
 
 pub join_by-requires : goal.join_by-requires
 join_by-requires c =
-    let k = subst (InHart _) c.in-Is.is c.caller_on-c.ensures.1 in (k.1, k.0)
+    let k = subst (InHart _) c.in-Ok.is c.caller_on-c.ensures.1 in (k.1, k.0)
 
-pub returns-in-No : goal.returns-in-No
-returns-in-No c =
-    did c.requires (join-no (table_of c.args.t.now) _ _ _ _ (sym c.in-No.is ∙ c.caller_on-c.ensures.0))
+pub returns-in-Err : goal.returns-in-Err
+returns-in-Err c =
+    did c.requires (join-no (table_of c.args.t.now) _ _ _ _ (sym c.in-Err.is ∙ c.caller_on-c.ensures.0))
 
-pub returns-in-Is : goal.returns-in-Is
-returns-in-Is c =
-    did c.requires (join_is (table_of c.args.t.now) _ _ _ (sym c.in-Is.is ∙ c.caller_on-c.ensures.0) c.join_by.ensures)
+pub returns-in-Ok : goal.returns-in-Ok
+returns-in-Ok c =
+    did c.requires (join_is (table_of c.args.t.now) _ _ _ (sym c.in-Ok.is ∙ c.caller_on-c.ensures.0) c.join_by.ensures)

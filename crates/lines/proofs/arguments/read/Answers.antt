@@ -29,9 +29,9 @@ pub bounds-w-i : goal.bounds-w-i
 bounds-w-i c =
     omega (arith, one_more _ _ _ _ c.loop-kind.invariant c.loop-kind-test.true, kinds-few c.args.k c.requires.1, wrote-long c.loop-kind.invariant.wrote, c.requires.2)
 
-pub returns-in-No : goal.returns-in-No
-returns-in-No c =
-    one-not _ _ _ _ c.loop-kind.invariant c.loop-kind-test.true c.next-c.ensures (sym c.in-No.is ∙ c.argument.ensures) _
+pub returns-in-Err : goal.returns-in-Err
+returns-in-Err c =
+    one-not _ _ _ _ c.loop-kind.invariant c.loop-kind-test.true c.next-c.ensures (sym c.in-Err.is ∙ c.argument.ensures) _
 
 pub overflow_add-i : goal.overflow_add-i
 overflow_add-i c =
@@ -47,7 +47,7 @@ loop-kind-smaller c =
 
 pub loop-kind-preserved : goal.loop-kind-preserved
 loop-kind-preserved c =
-    next _ _ _ _ c.loop-kind.invariant c.loop-kind-test.true c.next-c.ensures (sym c.in-Is.is ∙ c.argument.ensures) c.requires.1 c.requires.2 c.kind-kind-in-loop-kind.ensures
+    next _ _ _ _ c.loop-kind.invariant c.loop-kind-test.true c.next-c.ensures (sym c.in-Ok.is ∙ c.argument.ensures) c.requires.1 c.requires.2 c.kind-kind-in-loop-kind.ensures
 
 pub next-c-requires-2 : goal.next-c-requires-2
 next-c-requires-2 c = c.loop-kind.invariant.within

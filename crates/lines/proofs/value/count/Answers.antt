@@ -11,10 +11,10 @@ pub returns-then-w-eq45 : goal.returns-then-w-eq45
 returns-then-w-eq45 c =
     minus-count c.args.w.now c.if-w-eq45.true (part-from c.args.w.now 1 _ refl) c.below_zero.ensures
 
-pub returns-in-Is : goal.returns-in-Is
-returns-in-Is c =
-    plain-count c.args.w.now c.if-w-eq45.false (c.positive.ensures ∙ then_is positive (sym c.in-Is.is ∙ c.number-v.ensures))
+pub returns-in-Ok : goal.returns-in-Ok
+returns-in-Ok c =
+    plain-count c.args.w.now c.if-w-eq45.false (c.positive.ensures ∙ then_is positive (sym c.in-Ok.is ∙ c.number-v.ensures))
 
-pub returns-in-No : goal.returns-in-No
-returns-in-No c =
-    plain-count c.args.w.now c.if-w-eq45.false (then-no positive (sym c.in-No.is ∙ c.number-v.ensures))
+pub returns-in-Err : goal.returns-in-Err
+returns-in-Err c =
+    plain-count c.args.w.now c.if-w-eq45.false (then-no positive (sym c.in-Err.is ∙ c.number-v.ensures))

@@ -1,3 +1,4 @@
+use Rattle.std.specs.Prelude.{None}
 use Rattle.shows.proofs.ShowLaws.{listed_start, listed_more, listed-all}
 use Rattle.pieces.specs.Pieces.{place_text}
 use Rattle.shows.specs.Shows.{harts_text}
@@ -5,7 +6,6 @@ use Rattle.words.proofs.Facts.{harts-count}
 use Rattle.words.specs.Reading.{table_of}
 use Rattle.rules.specs.Listing.{bytes}
 use Rattle.rules.specs.Sizes.{hart_count}
-use Rattle.rules.specs.declared.Parent.TheVariants.{Nobody}
 use Rattle.std.proofs.Common.{rules, arith}
 use Rattle.shows.proofs.head.write_harts.Goals as goal
 
@@ -37,9 +37,9 @@ loop-hart-smaller c = omega arith
 pub loop-hart-preserved : goal.loop-hart-preserved
 unfolding hart_count bytes
 loop-hart-preserved c =
-    listed_more place_text (bytes " harts ") (table_of c.args.t.now).core.harts Nobody c.loop-hart.invariant (omega (arith, harts-count c.args.t.now)) (rw c.hart_at-in-loop-hart.ensures.0 at c.write_place-on-in-loop-hart.ensures.0) (omega arith)
+    listed_more place_text (bytes " harts ") (table_of c.args.t.now).core.harts None c.loop-hart.invariant (omega (arith, harts-count c.args.t.now)) (rw c.hart_at-in-loop-hart.ensures.0 at c.write_place-on-in-loop-hart.ensures.0) (omega arith)
 
 pub returns : goal.returns
 unfolding harts_text hart_count bytes
 returns c =
-    (listed-all place_text (bytes " harts ") (table_of c.args.t.now).core.harts Nobody c.loop-hart.invariant (omega (arith, harts-count c.args.t.now)) (rw c.hart_at.ensures.0 at c.write_place-on.ensures.0), omega (arith, harts-count c.args.t.now))
+    (listed-all place_text (bytes " harts ") (table_of c.args.t.now).core.harts None c.loop-hart.invariant (omega (arith, harts-count c.args.t.now)) (rw c.hart_at.ensures.0 at c.write_place-on.ensures.0), omega (arith, harts-count c.args.t.now))

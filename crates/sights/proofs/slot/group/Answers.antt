@@ -7,12 +7,12 @@ use Rattle.sights.proofs.slot.group.Goals as goal
 pub overflow_add-result : goal.overflow_add-result
 unfolding slot_count group_count
 overflow_add-result c =
-    omega (arith, subst InGroups c.in-In.is c.requires)
+    omega (arith, subst InGroups c.in-Some.is c.requires)
 
-pub returns-in-Alone : goal.returns-in-Alone
+pub returns-in-None : goal.returns-in-None
 unfolding group_word
-returns-in-Alone c = rw c.in-Alone.is
+returns-in-None c = rw c.in-None.is
 
-pub returns-in-In : goal.returns-in-In
+pub returns-in-Some : goal.returns-in-Some
 unfolding group_word
-returns-in-In c = rw (c.in-In.is, add-one)
+returns-in-Some c = rw (c.in-Some.is, add-one)

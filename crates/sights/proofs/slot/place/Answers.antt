@@ -7,12 +7,12 @@ use Rattle.sights.proofs.slot.place.Goals as goal
 pub overflow_add-result : goal.overflow_add-result
 unfolding slot_count
 overflow_add-result c =
-    omega (arith, subst InTable c.in-Of.is c.requires)
+    omega (arith, subst InTable c.in-Some.is c.requires)
 
-pub returns-in-Nobody : goal.returns-in-Nobody
+pub returns-in-None : goal.returns-in-None
 unfolding place_word
-returns-in-Nobody c = rw c.in-Nobody.is
+returns-in-None c = rw c.in-None.is
 
-pub returns-in-Of : goal.returns-in-Of
+pub returns-in-Some : goal.returns-in-Some
 unfolding place_word
-returns-in-Of c = rw (c.in-Of.is, add-one)
+returns-in-Some c = rw (c.in-Some.is, add-one)

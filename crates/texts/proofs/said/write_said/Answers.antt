@@ -1,42 +1,16 @@
-use Rattle.std.proofs.Common.{arith, lit≤, w32, to_z-of_z}
-use Rattle.buffers.proofs.TextLaws.{wrote_as, wrote-near, wrote-more}
-use Rattle.rules.specs.declared.Answer.TheVariants.{Done, Blocked}
+use Rattle.std.specs.Prelude.{Ok}
+use Rattle.std.proofs.Common.{arith}
+use Rattle.buffers.proofs.TextLaws.{wrote_as, wrote-more}
 use Rattle.pieces.specs.Pieces.{field}
 use Rattle.texts.specs.Texts.{said_of}
 use Rattle.rules.specs.Listing.{bytes}
 use Rattle.texts.proofs.said.write_said.Goals as goal
 
-pub returns-in-Done : goal.returns-in-Done
-unfolding said_of bytes
-returns-in-Done c =
-    wrote-near said_of Done {x = c.args.a} (cc) (lit≤ tt) c.write.ensures
+pub returns-in-Ok : goal.returns-in-Ok
+returns-in-Ok c =
+    (wrote_as said_of _ {x = c.args.a} c.in-Ok.is c.write_grant.ensures.0, c.write_grant.ensures.1)
 
-pub returns-in-Made : goal.returns-in-Made
+pub returns-in-Err : goal.returns-in-Err
 unfolding said_of field bytes
-returns-in-Made c =
-    (wrote_as said_of _ {x = c.args.a} c.in-Made.is c.write_field.ensures.0, omega (arith, c.write_field.ensures.1))
-
-pub returns-in-Handed : goal.returns-in-Handed
-unfolding said_of field bytes
-returns-in-Handed c =
-    (wrote_as said_of _ {x = c.args.a} c.in-Handed.is c.write_field-in-Handed.ensures.0, omega (arith, c.write_field-in-Handed.ensures.1))
-
-pub returns-in-Reaped : goal.returns-in-Reaped
-unfolding said_of field bytes
-returns-in-Reaped c =
-    (wrote_as said_of _ {x = c.args.a} c.in-Reaped.is (wrote-more c.write_field-on.ensures.0 c.write_field-in-Reaped.ensures.0), omega (arith, c.write_field-on.ensures.1, c.write_field-in-Reaped.ensures.1))
-
-pub returns-in-Joined : goal.returns-in-Joined
-unfolding said_of bytes
-returns-in-Joined c =
-    (wrote_as said_of _ {x = c.args.a} c.in-Joined.is (rw (to_z-of_z {w = w32} (record { sfits = c.in-Joined.known_told-in-Joined-1-own.given.0.1 })) at (wrote-more c.write-on.ensures c.write_signed.ensures.0)), omega (arith, c.write-on.ensures.place, c.write_signed.ensures.1))
-
-pub returns-in-Blocked : goal.returns-in-Blocked
-unfolding said_of bytes
-returns-in-Blocked c =
-    wrote-near said_of Blocked {x = c.args.a} (cc) (lit≤ tt) c.write-in-Blocked.ensures
-
-pub returns-in-Refused : goal.returns-in-Refused
-unfolding said_of field bytes
-returns-in-Refused c =
-    (wrote_as said_of _ {x = c.args.a} c.in-Refused.is (rw c.number_of.ensures at (wrote-more (wrote-more c.write_field-on-in-Refused.ensures.0 c.write-after.ensures) c.write_refusal.ensures.0)), omega (arith, c.write_field-on-in-Refused.ensures.1, c.write-after.ensures.place, c.write_refusal.ensures.1))
+returns-in-Err c =
+    (wrote_as said_of _ {x = c.args.a} c.in-Err.is (rw c.number_of.ensures at (wrote-more (wrote-more c.write_field-on.ensures.0 c.write-after.ensures) c.write_refusal.ensures.0)), omega (arith, c.write_field-on.ensures.1, c.write-after.ensures.place, c.write_refusal.ensures.1))

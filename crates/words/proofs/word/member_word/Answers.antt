@@ -6,7 +6,7 @@ use Rattle.words.proofs.word.member_word.Goals as goal
 pub overflow_add-result : goal.overflow_add-result
 unfolding slot_count group_count
 overflow_add-result c =
-    omega (arith, subst InGroups c.in-In.is c.requires)
+    omega (arith, subst InGroups c.in-Some.is c.requires)
 
-pub returns-in-In : goal.returns-in-In
-returns-in-In c = rw c.in-In.is
+pub returns-in-Some : goal.returns-in-Some
+returns-in-Some c = rw c.in-Some.is

@@ -6,7 +6,7 @@ use Rattle.words.proofs.word.parent_word.Goals as goal
 pub overflow_add-result : goal.overflow_add-result
 unfolding slot_count
 overflow_add-result c =
-    omega (arith, subst InTable c.in-Of.is c.requires)
+    omega (arith, subst InTable c.in-Some.is c.requires)
 
-pub returns-in-Of : goal.returns-in-Of
-returns-in-Of c = rw c.in-Of.is
+pub returns-in-Some : goal.returns-in-Some
+returns-in-Some c = rw c.in-Some.is
