@@ -10,50 +10,31 @@ use rules::{Answer, Grant, Refusal};
 
 pub const WORDS: usize = 3;
 
+// The refusals stand in the order of their numbers.
+#[tactic(auto, unfolding(rules::specs::Answers::number_of))]
 pub fn number_of(r: Refusal) -> u64
     ensures { result ≡ number_of r }
 {
-    match r {
-        Refusal::NoSuchHart => 1,
-        Refusal::HartIdle => 2,
-        Refusal::HartBusy => 3,
-        Refusal::QueueEmpty => 4,
-        Refusal::TableFull => 5,
-        Refusal::PidsSpent => 6,
-        Refusal::NoGroup => 7,
-        Refusal::BadAddress => 8,
-        Refusal::Unmapped => 9,
-        Refusal::NoneSuch => 10,
-        Refusal::StatusUnwritable => 11,
-        Refusal::InitOutOfTurn => 12,
-        Refusal::WrongWayOut => 13,
-        Refusal::NotADevice => 14,
-        Refusal::NameTooLong => 15,
-        Refusal::NoRoom => 16,
-        Refusal::SizeOutOfLimits => 17,
-        Refusal::NoMemory => 18,
-    }
+    r as u64 + 1
 }
 
 // Two's complement.
+#[tactic(auto, unfolding(crate::specs::Words::word_of))]
 fn word_of(x: i32) -> u64
     ensures { result ≡ word_of x }
 {
-    if x < 0 {
-        return u64::MAX - ((-1 - x) as u64);
-    }
-    x as u64
+    i64::from(x).cast_unsigned()
 }
 
+#[tactic(auto, unfolding(buffers::specs::Text::put))]
 pub fn put(b: &mut [u64], at: usize, x: u64, y: u64, z: u64)
     requires { at + answer_words ≤ length b.old }
     ensures { b.new ≡ put b.old at (x ∷ y ∷ z ∷ []) }
 {
-    b[at] = x;
-    b[at + 1] = y;
-    b[at + 2] = z;
+    b[at..at + WORDS].copy_from_slice(&[x, y, z]);
 }
 
+#[tactic(auto, unfolding(crate::specs::Words::coded, crate::specs::Words::word_of, rules::specs::Answers::values_of))]
 fn write_grant(b: &mut [u64], at: usize, g: Grant)
     requires { at + answer_words ≤ length b.old }
     ensures { b.new ≡ put b.old at (coded (Ok g)) }
@@ -68,6 +49,7 @@ fn write_grant(b: &mut [u64], at: usize, g: Grant)
     }
 }
 
+#[tactic(auto, unfolding(crate::specs::Words::coded, crate::specs::Words::word_of, rules::specs::Answers::values_of))]
 pub fn write(b: &mut [u64], at: usize, a: Answer)
     requires { at + answer_words ≤ length b.old }
     ensures { b.new ≡ put b.old at (coded a) }

@@ -1,13 +1,47 @@
 // Each call over lent tables. Its answer stands in three words; the code says whether it was made.
-ghost use Rattle.std.specs.Prelude.{Some};
+ghost use Rattle.std.specs.Prelude.{List, ℕ, Some, None};
+ghost use Rattle.rules.specs.Types.{Answer};
 ghost use Rattle.rules.specs.Model.{pid};
-ghost use Rattle.rules.specs.Runs.{boot, start, spawn, system_return, fork, thread, dispatch, yield, sleep, wakeup, kill, wait, join, thread_exit, exit, grow};
+ghost use Rattle.rules.specs.Runs.{Call, boot, start, spawn, system_return, fork, thread, dispatch, yield, sleep, wakeup, kill, wait, join, thread_exit, exit, grow};
+ghost use Rattle.promises.specs.Order.Sound.{Sound};
+ghost use Rattle.promises.specs.Did.{Did};
+ghost use Rattle.words.specs.Reading.{table_of};
 ghost use Rattle.codes.specs.Codes.{is_flag, yes, is_wish, wish_of, is_mapped, mapped_of};
 ghost use Rattle.anwalghid.specs.Exports.{allowed, InOrder, Exported};
 
 use crate::{ANSWERED, NOT_ONE_TABLE, OUT_OF_RANGE};
-use rules::{Pid, ThreadAsk};
+use rules::{Answer, Pid, ThreadAsk};
 use words::Table;
+
+// If `call` is the call c on any table, c is what is exported.
+fn on_one<F: FnOnce(&mut [u64; Table::WORDS]) -> Answer>(
+    tables: &mut [[u64; Table::WORDS]],
+    answer: &mut [u64; answers::WORDS],
+    call: F,
+) -> u64
+    requires in_order { InOrder tables.old }
+    requires callable { (t : _) → Sound (table_of t.now) → F.pre call t }
+    ensures { (c : Call) → ((t : _) (a : Answer) (u : _) → F.post call t a u → Did c (table_of t.now) a (table_of u.now)) → Exported (Some c) tables.old answer.old result tables.new answer.new }
+{
+    // By index: what is left in a slice pattern's element isn't known to be left in the slice.
+    if tables.len() != 1 {
+        return NOT_ONE_TABLE;
+    }
+    *answer = sights::words_of(call(&mut tables[0]));
+    ANSWERED
+}
+
+// The number of tables is looked at before any argument.
+#[tactic(auto, using(crate::proofs::ExportLaws::other_number, crate::proofs::ExportLaws::not_called))]
+fn out_of_range(tables: &[[u64; Table::WORDS]]) -> u64
+    ensures { (b : List ℕ) → InOrder tables.now → Exported None tables.now b result tables.now b }
+{
+    if tables.len() == 1 {
+        OUT_OF_RANGE
+    } else {
+        NOT_ONE_TABLE
+    }
+}
 
 #[unsafe(no_mangle)]
 pub extern "C" fn anwalghid_user_init(
@@ -17,12 +51,7 @@ pub extern "C" fn anwalghid_user_init(
     requires { InOrder tables.old }
     ensures { Exported (Some boot) tables.old answer.old result tables.new answer.new }
 {
-    if tables.len() != 1 {
-        return NOT_ONE_TABLE;
-    }
-    let a = births::user_init(&mut tables[0]);
-    *answer = sights::words_of(a);
-    ANSWERED
+    on_one(tables, answer, |t| births::user_init(t))
 }
 
 #[unsafe(no_mangle)]
@@ -33,12 +62,7 @@ pub extern "C" fn anwalghid_start_init_process(
     requires { InOrder tables.old }
     ensures { Exported (Some start) tables.old answer.old result tables.new answer.new }
 {
-    if tables.len() != 1 {
-        return NOT_ONE_TABLE;
-    }
-    let a = births::start_init_process(&mut tables[0]);
-    *answer = sights::words_of(a);
-    ANSWERED
+    on_one(tables, answer, |t| births::start_init_process(t))
 }
 
 #[unsafe(no_mangle)]
@@ -51,12 +75,11 @@ pub extern "C" fn anwalghid_spawn_system_thread(
     requires { InOrder tables.old }
     ensures { Exported (Some (spawn name.now entry)) tables.old answer.old result tables.new answer.new }
 {
-    if tables.len() != 1 {
-        return NOT_ONE_TABLE;
-    }
-    let a = births::spawn_system_thread(&mut tables[0], name, entry);
-    *answer = sights::words_of(a);
-    ANSWERED
+    on_one(
+        tables,
+        answer,
+        |t| births::spawn_system_thread(t, name, entry),
+    )
 }
 
 #[unsafe(no_mangle)]
@@ -68,12 +91,7 @@ pub extern "C" fn anwalghid_free_system_thread(
     requires { InOrder tables.old }
     ensures { Exported (Some (system_return hart)) tables.old answer.old result tables.new answer.new }
 {
-    if tables.len() != 1 {
-        return NOT_ONE_TABLE;
-    }
-    let a = births::free_system_thread(&mut tables[0], hart);
-    *answer = sights::words_of(a);
-    ANSWERED
+    on_one(tables, answer, |t| births::free_system_thread(t, hart))
 }
 
 #[unsafe(no_mangle)]
@@ -86,15 +104,10 @@ pub extern "C" fn anwalghid_fork(
     requires { InOrder tables.old }
     ensures { Exported (allowed (is_flag memory) (fork hart (yes memory))) tables.old answer.old result tables.new answer.new }
 {
-    if tables.len() != 1 {
-        return NOT_ONE_TABLE;
-    }
-    if memory >= 2 {
-        return OUT_OF_RANGE;
-    }
-    let a = forks::fork(&mut tables[0], hart, memory == 1);
-    *answer = sights::words_of(a);
-    ANSWERED
+    let Some(memory) = codes::flag(memory) else {
+        return out_of_range(tables);
+    };
+    on_one(tables, answer, |t| forks::fork(t, hart, memory))
 }
 
 #[unsafe(no_mangle)]
@@ -111,21 +124,20 @@ pub extern "C" fn anwalghid_create_user_thread(
     requires { InOrder tables.old }
     ensures { Exported (allowed (is_mapped mapped) (thread hart (record { entry = entry; arg = arg; stack = stack; ret = ret }) (mapped_of mapped))) tables.old answer.old result tables.new answer.new }
 {
-    if tables.len() != 1 {
-        return NOT_ONE_TABLE;
-    }
-    if mapped >= 16 {
-        return OUT_OF_RANGE;
-    }
+    let Some(mapped) = codes::mapped(mapped) else {
+        return out_of_range(tables);
+    };
     let ask = ThreadAsk {
         entry,
         arg,
         stack,
         ret,
     };
-    let a = forks::create_user_thread(&mut tables[0], hart, ask, codes::mapped_of(mapped));
-    *answer = sights::words_of(a);
-    ANSWERED
+    on_one(
+        tables,
+        answer,
+        |t| forks::create_user_thread(t, hart, ask, mapped),
+    )
 }
 
 #[unsafe(no_mangle)]
@@ -137,12 +149,7 @@ pub extern "C" fn anwalghid_dequeue_runnable(
     requires { InOrder tables.old }
     ensures { Exported (Some (dispatch hart)) tables.old answer.old result tables.new answer.new }
 {
-    if tables.len() != 1 {
-        return NOT_ONE_TABLE;
-    }
-    let a = sched::dequeue_runnable(&mut tables[0], hart);
-    *answer = sights::words_of(a);
-    ANSWERED
+    on_one(tables, answer, |t| sched::dequeue_runnable(t, hart))
 }
 
 #[unsafe(no_mangle)]
@@ -154,12 +161,7 @@ pub extern "C" fn anwalghid_yielding(
     requires { InOrder tables.old }
     ensures { Exported (Some (yield hart)) tables.old answer.old result tables.new answer.new }
 {
-    if tables.len() != 1 {
-        return NOT_ONE_TABLE;
-    }
-    let a = sched::yielding(&mut tables[0], hart);
-    *answer = sights::words_of(a);
-    ANSWERED
+    on_one(tables, answer, |t| sched::yielding(t, hart))
 }
 
 #[unsafe(no_mangle)]
@@ -172,12 +174,7 @@ pub extern "C" fn anwalghid_sleep(
     requires { InOrder tables.old }
     ensures { Exported (Some (sleep hart channel)) tables.old answer.old result tables.new answer.new }
 {
-    if tables.len() != 1 {
-        return NOT_ONE_TABLE;
-    }
-    let a = sched::sleep(&mut tables[0], hart, channel);
-    *answer = sights::words_of(a);
-    ANSWERED
+    on_one(tables, answer, |t| sched::sleep(t, hart, channel))
 }
 
 #[unsafe(no_mangle)]
@@ -189,12 +186,7 @@ pub extern "C" fn anwalghid_wake_up(
     requires { InOrder tables.old }
     ensures { Exported (Some (wakeup channel)) tables.old answer.old result tables.new answer.new }
 {
-    if tables.len() != 1 {
-        return NOT_ONE_TABLE;
-    }
-    let a = sched::wake_up(&mut tables[0], channel);
-    *answer = sights::words_of(a);
-    ANSWERED
+    on_one(tables, answer, |t| sched::wake_up(t, channel))
 }
 
 #[unsafe(no_mangle)]
@@ -206,12 +198,7 @@ pub extern "C" fn anwalghid_kill(
     requires { InOrder tables.old }
     ensures { Exported (Some (kill (pid p))) tables.old answer.old result tables.new answer.new }
 {
-    if tables.len() != 1 {
-        return NOT_ONE_TABLE;
-    }
-    let a = sched::kill(&mut tables[0], Pid(p));
-    *answer = sights::words_of(a);
-    ANSWERED
+    on_one(tables, answer, |t| sched::kill(t, Pid(p)))
 }
 
 #[unsafe(no_mangle)]
@@ -224,15 +211,10 @@ pub extern "C" fn anwalghid_wait(
     requires { InOrder tables.old }
     ensures { Exported (allowed (is_wish wish) (wait hart (wish_of wish))) tables.old answer.old result tables.new answer.new }
 {
-    if tables.len() != 1 {
-        return NOT_ONE_TABLE;
-    }
-    if wish >= 3 {
-        return OUT_OF_RANGE;
-    }
-    let a = waits::wait(&mut tables[0], hart, codes::wish_of(wish));
-    *answer = sights::words_of(a);
-    ANSWERED
+    let Some(wish) = codes::wish(wish) else {
+        return out_of_range(tables);
+    };
+    on_one(tables, answer, |t| waits::wait(t, hart, wish))
 }
 
 #[unsafe(no_mangle)]
@@ -246,15 +228,14 @@ pub extern "C" fn anwalghid_join_user_thread(
     requires { InOrder tables.old }
     ensures { Exported (allowed (is_wish wish) (join hart (pid p) (wish_of wish))) tables.old answer.old result tables.new answer.new }
 {
-    if tables.len() != 1 {
-        return NOT_ONE_TABLE;
-    }
-    if wish >= 3 {
-        return OUT_OF_RANGE;
-    }
-    let a = waits::join_user_thread(&mut tables[0], hart, Pid(p), codes::wish_of(wish));
-    *answer = sights::words_of(a);
-    ANSWERED
+    let Some(wish) = codes::wish(wish) else {
+        return out_of_range(tables);
+    };
+    on_one(
+        tables,
+        answer,
+        |t| waits::join_user_thread(t, hart, Pid(p), wish),
+    )
 }
 
 #[unsafe(no_mangle)]
@@ -267,12 +248,7 @@ pub extern "C" fn anwalghid_thread_exit(
     requires { InOrder tables.old }
     ensures { Exported (Some (thread_exit hart status)) tables.old answer.old result tables.new answer.new }
 {
-    if tables.len() != 1 {
-        return NOT_ONE_TABLE;
-    }
-    let a = ends::thread_exit(&mut tables[0], hart, status);
-    *answer = sights::words_of(a);
-    ANSWERED
+    on_one(tables, answer, |t| ends::thread_exit(t, hart, status))
 }
 
 #[unsafe(no_mangle)]
@@ -285,12 +261,7 @@ pub extern "C" fn anwalghid_exit(
     requires { InOrder tables.old }
     ensures { Exported (Some (exit hart status)) tables.old answer.old result tables.new answer.new }
 {
-    if tables.len() != 1 {
-        return NOT_ONE_TABLE;
-    }
-    let a = ends::exit(&mut tables[0], hart, status);
-    *answer = sights::words_of(a);
-    ANSWERED
+    on_one(tables, answer, |t| ends::exit(t, hart, status))
 }
 
 #[unsafe(no_mangle)]
@@ -304,13 +275,12 @@ pub extern "C" fn anwalghid_grow_proc(
     requires { InOrder tables.old }
     ensures { Exported (allowed (is_flag memory) (grow hart count (yes memory))) tables.old answer.old result tables.new answer.new }
 {
-    if tables.len() != 1 {
-        return NOT_ONE_TABLE;
-    }
-    if memory >= 2 {
-        return OUT_OF_RANGE;
-    }
-    let a = growth::grow_proc(&mut tables[0], hart, count, memory == 1);
-    *answer = sights::words_of(a);
-    ANSWERED
+    let Some(memory) = codes::flag(memory) else {
+        return out_of_range(tables);
+    };
+    on_one(
+        tables,
+        answer,
+        |t| growth::grow_proc(t, hart, count, memory),
+    )
 }

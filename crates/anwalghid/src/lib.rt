@@ -4,6 +4,7 @@
 mod calls; // each call, its answer in three words
 mod tables; // a fresh table, and what is seen of one: the listing, its text, a slot
 
+// What C reads: numbers, as docs/ARCHIVE.md has them.
 const ANSWERED: u64 = 0;
 
 const NOT_ONE_TABLE: u64 = 1;

@@ -1,9 +1,9 @@
 // Boot, start, and system threads.
-#![tactic(auto)]
+#![tactic(auto, using(crate::proofs::BirthLaws::refusals), unfolding(rules::specs::Sizes::name_size))]
 
 ghost use Rattle.std.specs.Prelude.{◌<◌, length};
-ghost use Rattle.rules.specs.Sizes.{slot_count, hart_count};
-ghost use Rattle.rules.specs.Calls.{booted_in, spawned_in, system_returned_by};
+ghost use Rattle.rules.specs.Sizes.{slot_count};
+ghost use Rattle.rules.specs.Calls.{booted_in, spawned_in};
 ghost use Rattle.rules.specs.Runs.{boot, start, spawn, system_return};
 ghost use Rattle.promises.specs.Order.Sound.{Sound};
 ghost use Rattle.promises.specs.Did.{Makes, Did};
@@ -22,23 +22,27 @@ fn boot_in(t: &mut [u64; Table::WORDS], i: usize) -> Answer
     let n = book::pids(t);
     let g = scans::new_group(t);
     let name = names::pack(b"initname");
-    let k = Kin {
-        group: Some(g),
-        parent: None,
-        thread: false,
-        system: false,
-    };
-    let b = StartWords {
-        below: 0,
-        sp: stacks::user_sp(i),
-        entry: 0,
-        top: 4 * stacks::PAGE,
-        arg: 0,
-        ret: 0,
-        name0: name.low,
-        name1: name.high,
-    };
-    taking::fill(t, i, n, k, b);
+    taking::fill(
+        t,
+        i,
+        n,
+        Kin {
+            group: Some(g),
+            parent: None,
+            thread: false,
+            system: false,
+        },
+        StartWords {
+            below: 0,
+            sp: stacks::user_sp(i),
+            entry: 0,
+            top: 4 * stacks::PAGE,
+            arg: 0,
+            ret: 0,
+            name0: name.low,
+            name1: name.high,
+        },
+    );
     book::set_group(
         t,
         g,
@@ -55,30 +59,24 @@ pub fn user_init(t: &mut [u64; Table::WORDS]) -> Answer
     requires { Sound (table_of t.old) }
     ensures { Did boot (table_of t.old) result (table_of t.new) }
 {
-    let p = book::init(t);
-    if let Some(_) = p {
+    if book::init(t).is_some() {
         return Err(Refusal::InitOutOfTurn);
     }
-    match taking::alloc_proc(t) {
-        Err(n) => Err(n),
-        Ok(i) => boot_in(t, i),
-    }
+    let i = taking::alloc_proc(t)?;
+    boot_in(t, i)
 }
 
 pub fn start_init_process(t: &mut [u64; Table::WORDS]) -> Answer
     requires { Sound (table_of t.old) }
     ensures { Did start (table_of t.old) result (table_of t.new) }
 {
-    let p = book::init(t);
-    let Some(init) = p else {
-        return Err(Refusal::InitOutOfTurn);
-    };
-    let i = init.0;
-    if scans::is(t, i, ProcState::ALLOCATED) {
-        moves::make_runnable(t, i);
-        return Ok(Grant::Done);
+    let init = book::init(t).ok_or(Refusal::InitOutOfTurn)?;
+    if scans::is(t, init.0, ProcState::ALLOCATED) {
+        moves::make_runnable(t, init.0);
+        Ok(Grant::Done)
+    } else {
+        Err(Refusal::InitOutOfTurn)
     }
-    Err(Refusal::InitOutOfTurn)
 }
 
 fn spawn_in(t: &mut [u64; Table::WORDS], name: &[u8], entry: u64, i: usize) -> Answer
@@ -87,23 +85,27 @@ fn spawn_in(t: &mut [u64; Table::WORDS], name: &[u8], entry: u64, i: usize) -> A
 {
     let n = book::pids(t);
     let w = names::pack(name);
-    let k = Kin {
-        group: None,
-        parent: None,
-        thread: false,
-        system: true,
-    };
-    let b = StartWords {
-        below: 0,
-        sp: stacks::system_sp(i),
-        entry,
-        top: 0,
-        arg: 0,
-        ret: 0,
-        name0: w.low,
-        name1: w.high,
-    };
-    taking::fill(t, i, n, k, b);
+    taking::fill(
+        t,
+        i,
+        n,
+        Kin {
+            group: None,
+            parent: None,
+            thread: false,
+            system: true,
+        },
+        StartWords {
+            below: 0,
+            sp: stacks::system_sp(i),
+            entry,
+            top: 0,
+            arg: 0,
+            ret: 0,
+            name0: w.low,
+            name1: w.high,
+        },
+    );
     moves::make_runnable(t, i);
     Ok(Grant::Made(Pid(n)))
 }
@@ -115,33 +117,20 @@ pub fn spawn_system_thread(t: &mut [u64; Table::WORDS], name: &[u8], entry: u64)
     if name.len() > NAME_SIZE {
         return Err(Refusal::NameTooLong);
     }
-    match taking::alloc_proc(t) {
-        Err(n) => Err(n),
-        Ok(i) => spawn_in(t, name, entry, i),
-    }
+    let i = taking::alloc_proc(t)?;
+    spawn_in(t, name, entry, i)
 }
 
 // A system thread's return frees its slot at once.
-fn return_by(t: &mut [u64; Table::WORDS], hart: usize, caller: usize) -> Answer
-    requires { (hart < hart_count) × (caller < slot_count) }
-    ensures { Makes (system_returned_by (table_of t.old) hart caller) result (table_of t.new) }
-{
-    let k = slot::kin_at(t, caller);
-    if k.system {
-        moves::idle(t, hart);
-        taking::free_proc(t, caller);
-        return Ok(Grant::Done);
-    }
-    Err(Refusal::WrongWayOut)
-}
-
 pub fn free_system_thread(t: &mut [u64; Table::WORDS], hart: usize) -> Answer
     requires { Sound (table_of t.old) }
     ensures { Did (system_return hart) (table_of t.old) result (table_of t.new) }
 {
-    let c = taking::caller_on(t, hart);
-    match c {
-        Err(n) => Err(n),
-        Ok(caller) => return_by(t, hart, caller),
+    let caller = taking::caller_on(t, hart)?;
+    if !slot::kin_at(t, caller).system {
+        return Err(Refusal::WrongWayOut);
     }
+    moves::idle(t, hart);
+    taking::free_proc(t, caller);
+    Ok(Grant::Done)
 }

@@ -2,6 +2,7 @@
 #![tactic(auto)]
 
 ghost use Rattle.std.specs.Prelude.{◌≡◌, ◌≤◌, length, get_or};
+ghost use Rattle.std.specs.Bool.{then_some};
 ghost use Rattle.rules.specs.Model.{pid};
 ghost use Rattle.steps.specs.declared.Call.TheVariants.{Fork, Thread, Wait, Join, Grow};
 ghost use Rattle.codes.specs.Codes.{signed_of, call_words, is_flag, yes, is_wish, wish_of, is_mapped, mapped_of, only_if, call_numbered, call_in};
@@ -11,16 +12,7 @@ use steps::Call;
 
 pub const WORDS: usize = 8;
 
-// Two's complement.
-fn signed_of(n: u64) -> i64
-    ensures { result ≡ signed_of n }
-{
-    if n < 9223372036854775808 {
-        return n as i64;
-    }
-    -1 - ((u64::MAX - n) as i64)
-}
-
+#[tactic(auto, unfolding(crate::specs::Codes::wish_of))]
 pub fn wish_of(n: u64) -> Wish
     ensures { result ≡ wish_of n }
 {
@@ -31,46 +23,7 @@ pub fn wish_of(n: u64) -> Wish
     }
 }
 
-fn fork(hart: u64, memory: u64) -> Option<Call>
-    ensures { result ≡ only_if (is_flag memory) (Fork hart (yes memory)) }
-{
-    if memory >= 2 {
-        return None;
-    }
-    Some(Call::Fork(hart as usize, memory == 1))
-}
-
-fn wait(hart: u64, w: u64) -> Option<Call>
-    ensures { result ≡ only_if (is_wish w) (Wait hart (wish_of w)) }
-{
-    if w >= 3 {
-        return None;
-    }
-    let wish = wish_of(w);
-    Some(Call::Wait(hart as usize, wish))
-}
-
-fn join(hart: u64, p: u64, w: u64) -> Option<Call>
-    ensures { result ≡ only_if (is_wish w) (Join hart (pid p) (wish_of w)) }
-{
-    if w >= 3 {
-        return None;
-    }
-    let wish = wish_of(w);
-    let p = Pid(p);
-    Some(Call::Join(hart as usize, p, wish))
-}
-
-fn grow(hart: u64, count: u64, memory: u64) -> Option<Call>
-    ensures { result ≡ only_if (is_flag memory) (Grow hart (signed_of count) (yes memory)) }
-{
-    if memory >= 2 {
-        return None;
-    }
-    let count = signed_of(count);
-    Some(Call::Grow(hart as usize, count, memory == 1))
-}
-
+#[tactic(auto, unfolding(crate::specs::Codes::mapped_of, crate::specs::Codes::yes))]
 pub fn mapped_of(n: u64) -> Mapped
     ensures { result ≡ mapped_of n }
 {
@@ -82,14 +35,61 @@ pub fn mapped_of(n: u64) -> Mapped
     }
 }
 
-fn thread(hart: u64, ask: ThreadAsk, mapped: u64) -> Option<Call>
-    ensures { result ≡ only_if (is_mapped mapped) (Thread hart ask (mapped_of mapped)) }
+// 0 for no or 1 for yes.
+#[tactic(auto, unfolding(crate::specs::Codes::is_flag, crate::specs::Codes::yes))]
+pub fn flag(n: u64) -> Option<bool>
+    ensures { result ≡ then_some (is_flag n) (yes n) }
 {
-    if mapped >= 16 {
-        return None;
-    }
-    let m = mapped_of(mapped);
-    Some(Call::Thread(hart as usize, ask, m))
+    (n < 2).then_some(n == 1)
+}
+
+#[tactic(auto, unfolding(crate::specs::Codes::is_wish))]
+pub fn wish(n: u64) -> Option<Wish>
+    ensures { result ≡ then_some (is_wish n) (wish_of n) }
+{
+    (n < 3).then_some(wish_of(n))
+}
+
+#[tactic(auto, unfolding(crate::specs::Codes::is_mapped))]
+pub fn mapped(n: u64) -> Option<Mapped>
+    ensures { result ≡ then_some (is_mapped n) (mapped_of n) }
+{
+    (n < 16).then_some(mapped_of(n))
+}
+
+#[tactic(auto, unfolding(crate::specs::Codes::only_if))]
+fn fork(hart: u64, memory: u64) -> Option<Call>
+    ensures { result ≡ only_if (is_flag memory) (Fork hart (yes memory)) }
+{
+    Some(Call::Fork(hart as usize, flag(memory)?))
+}
+
+#[tactic(auto, unfolding(crate::specs::Codes::only_if))]
+fn wait(hart: u64, w: u64) -> Option<Call>
+    ensures { result ≡ only_if (is_wish w) (Wait hart (wish_of w)) }
+{
+    Some(Call::Wait(hart as usize, wish(w)?))
+}
+
+#[tactic(auto, unfolding(crate::specs::Codes::only_if))]
+fn join(hart: u64, p: u64, w: u64) -> Option<Call>
+    ensures { result ≡ only_if (is_wish w) (Join hart (pid p) (wish_of w)) }
+{
+    Some(Call::Join(hart as usize, Pid(p), wish(w)?))
+}
+
+#[tactic(auto, using(crate::proofs::CodeLaws::count_read), unfolding(crate::specs::Codes::only_if))]
+fn grow(hart: u64, count: u64, memory: u64) -> Option<Call>
+    ensures { result ≡ only_if (is_flag memory) (Grow hart (signed_of count) (yes memory)) }
+{
+    Some(Call::Grow(hart as usize, count.cast_signed(), flag(memory)?))
+}
+
+#[tactic(auto, unfolding(crate::specs::Codes::only_if))]
+fn thread(hart: u64, ask: ThreadAsk, m: u64) -> Option<Call>
+    ensures { result ≡ only_if (is_mapped m) (Thread hart ask (mapped_of m)) }
+{
+    Some(Call::Thread(hart as usize, ask, mapped(m)?))
 }
 
 fn ask_of(w: &[u64]) -> ThreadAsk
@@ -104,6 +104,8 @@ fn ask_of(w: &[u64]) -> ThreadAsk
     }
 }
 
+// By hand: the C interface fixes the numbers (docs/ARCHIVE.md).
+#[tactic(auto, unfolding(crate::specs::Codes::call_numbered, crate::specs::Codes::calls))]
 fn numbered(n: u64, w: &[u64]) -> Option<Call>
     requires { call_words ≤ length w.now }
     ensures { result ≡ call_numbered n (λ i. get_or w.now i 0) }
@@ -130,6 +132,7 @@ fn numbered(n: u64, w: &[u64]) -> Option<Call>
 }
 
 // The call at the front of the words.
+#[tactic(auto, unfolding(crate::specs::Codes::call_in))]
 pub fn first(w: &[u64]) -> Option<Call>
     ensures { result ≡ call_in w.now }
 {

@@ -48,7 +48,7 @@ module _ {t : Table} {number : ℕ} {m : Meaning} {b d : List ℕ} {at end : ℕ
   answered-by : (x : Meaning) → x ≡ m → {u : Table} → u ≡ table_after t x → Sound u → Wrote b at (text_for t number x) d end → end ≤ at + desk_top → Answered t number m u b at d end
   answered-by x e f w v h = rw (← e) record { table = f; text = v; within = h; sound = w }
 
-module _ (t : Table) (number : ℕ) (m : Meaning) (b : List ℕ) (at : ℕ) where
+module _ {t : Table} {number : ℕ} {m : Meaning} {b : List ℕ} {at : ℕ} where
   pub nothing_said : passed ≡ m → Sound t → at + desk_top ≤ length b → Answered t number m t b at b at
   unfolding table_after text_for name_size
   nothing_said e w h = answered-by passed e refl w (wrote_none b at (omega arith)) (omega arith)

@@ -1,7 +1,7 @@
 // A line answered: what it does to the table, and the text that comes back.
 #![tactic(auto)]
 
-ghost use Rattle.std.specs.Prelude.{◌+◌, ◌≤◌, length};
+ghost use Rattle.std.specs.Prelude.{◌≡◌, ◌+◌, ◌≤◌, length};
 ghost use Rattle.rules.specs.declared.Grant.TheVariants.{Done};
 ghost use Rattle.promises.specs.Order.Sound.{Sound};
 ghost use Rattle.words.specs.Reading.{table_of};
@@ -19,19 +19,20 @@ use words::Table;
 // Room for the answer to any line.
 pub const TOP: usize = shows::TOP;
 
-fn write_why(out: &mut [u8], at: usize, why: Why) -> usize
-    requires { at + why_top ≤ length out.old }
-    ensures { Wrote out.old at (why_text why) out.new result × (result ≤ at + why_top) }
+#[tactic(auto, unfolding(crate::specs::Desk::why_text, rules::specs::Listing::bytes))]
+fn why_text(why: Why) -> &'static [u8]
+    ensures text { result.now ≡ why_text why }
+    ensures short { length result.now ≤ why_top }
 {
     match why {
-        Why::UnknownWord => buffers::write(out, at, b"unknown command"),
-        Why::TooFew => buffers::write(out, at, b"an argument is missing"),
-        Why::TooMany => buffers::write(out, at, b"a word too many"),
-        Why::NotANumber => buffers::write(out, at, b"not a number"),
-        Why::TooLarge => buffers::write(out, at, b"the number is too large"),
-        Why::NotAChoice => buffers::write(out, at, b"not yes or no, or not a wish"),
-        Why::NotAName => buffers::write(out, at, b"not two hex digits for each byte"),
-        Why::TooLong => buffers::write(out, at, b"over 255 bytes"),
+        Why::UnknownWord => b"unknown command",
+        Why::TooFew => b"an argument is missing",
+        Why::TooMany => b"a word too many",
+        Why::NotANumber => b"not a number",
+        Why::TooLarge => b"the number is too large",
+        Why::NotAChoice => b"not yes or no, or not a wish",
+        Why::NotAName => b"not two hex digits for each byte",
+        Why::TooLong => b"over 255 bytes",
     }
 }
 
@@ -41,7 +42,7 @@ pub fn write_misread(out: &mut [u8], at: usize, number: u64, why: Why) -> usize
 {
     let a = pieces::write_field(out, at, b"? line ", number);
     let b = buffers::write(out, a, b": ");
-    let c = write_why(out, b, why);
+    let c = buffers::write(out, b, why_text(why));
     buffers::write(out, c, b"\n")
 }
 

@@ -7,51 +7,18 @@ use mathlib.Core.Path.{◌≡◌, refl, sym, ap, ◌∙◌}
 use mathlib.Core.Bool.{Bool, true, false}
 use lib.Dec.{leb}
 use borrow.Author.Tests.{leb-true, leb-false}
-use Rattle.rules.specs.declared.ProcState.TheVariants.{ZOMBIE}
 use Rattle.rules.specs.Sizes.{slot_count}
-use Rattle.rules.specs.Model.{Table, at, is}
-use Rattle.rules.specs.Moves.{sweep, lowest, reap}
+use Rattle.rules.specs.Model.{Table}
+use Rattle.rules.specs.Moves.{sweep, lowest}
 use Rattle.rules.specs.Calls.{thread_of, reap_if_zombie, reap_first, reap_threads}
 use Rattle.ends.specs.Looks.{is_zombie, first_is_zombie}
 
--- ---- one look
-module _ (m : Option ℕ) (t : Table) (r : Option ℕ) (q : r ≡ lowest (thread_of m) t.core.slots) where
-  -- u is the table after a look, b whether it reaped
-  abbrev Looked : Table → Bool → Type 0
-  Looked u b = (u ≡ reap_first m t) × (b ≡ first_is_zombie m t)
-
-  looked : (x : Option ℕ) → x ≡ r → Looked (reap_if_zombie t x) (is_zombie t x)
-  unfolding reap_first first_is_zombie
-  looked x z = (ap (reap_if_zombie t) (z ∙ q), ap (is_zombie t) (z ∙ q))
-
-  pub look_none : None ≡ r → Looked t false
-  unfolding reap_if_zombie is_zombie
-  look_none z = looked None z
-
-  module _ {i : ℕ} (z : Some i ≡ r) where
-    pub look-live : is ZOMBIE (at t.core i) ≡ false → Looked t false
-    unfolding reap_if_zombie is_zombie
-    look-live e = rw e at (looked (Some i) z)
-
-    pub look-reaps : {u : Table} → is ZOMBIE (at t.core i) ≡ true → u ≡ reap i t → Looked u true
-    unfolding reap_if_zombie is_zombie
-    look-reaps e f = let l = rw e at (looked (Some i) z) in (f ∙ l.0, l.1)
-
--- ---- look after look
 abbrev pub looks : Option ℕ → ℕ → Table → Table
 looks m n t = sweep (λ _. reap_first m) n t
-
-pub looks-none : (m : Option ℕ) (t : Table) → t ≡ looks m 0 t
-unfolding sweep
-looks-none m t = refl
 
 pub looks-more : (m : Option ℕ) (t : Table) (n : ℕ) {a b : Table} → b ≡ reap_first m a → a ≡ looks m n t → b ≡ looks m (n + 1) t
 unfolding sweep
 looks-more m t n e i = rw add-one (e ∙ ap (reap_first m) i)
-
-pub looks-all : (m : Option ℕ) (t : Table) {u : Table} → u ≡ looks m slot_count t → u ≡ reap_threads m t
-unfolding reap_threads
-looks-all m t e = e
 
 -- once a look changes nothing, no further one does
 still : (m : Option ℕ) (t : Table) (i n : ℕ) → i ≤ n → looks m i t ≡ reap_first m (looks m i t) → looks m i t ≡ looks m n t

@@ -3,7 +3,6 @@
 
 ghost use Rattle.std.specs.Prelude.{◌≡◌, ◌<◌, Some, None};
 ghost use Rattle.rules.specs.Sizes.{slot_count, hart_count};
-ghost use Rattle.rules.specs.Model.{is_slot};
 ghost use Rattle.rules.specs.Calls.{reap_first, reap_threads, exited_past, leader_exited, thread_ended, exited_by, thread_exited_by, stays};
 ghost use Rattle.rules.specs.Runs.{exit, thread_exit};
 ghost use Rattle.promises.specs.Order.Sound.{Queued, Sound};
@@ -60,9 +59,7 @@ fn depart(t: &mut [u64; Table::WORDS], hart: usize, status: u64, caller: usize) 
     ensures { Makes (exited_past (table_of t.old) hart status caller None) result (table_of t.new) }
 {
     wakes::reparent(t, caller);
-    let k = slot::kin_at(t, caller);
-    let parent = k.parent;
-    wakes::wake_of(t, parent);
+    wakes::wake_of(t, slot::kin_at(t, caller).parent);
     moves::zombie_on(t, hart, caller, status);
     Ok(Grant::Done)
 }
@@ -71,8 +68,7 @@ fn exit_leader(t: &mut [u64; Table::WORDS], hart: usize, status: u64, caller: us
     requires { (hart < hart_count) × (caller < slot_count) × Sound (table_of t.old) }
     ensures { Makes (leader_exited (table_of t.old) hart status caller) result (table_of t.new) }
 {
-    let k = slot::kin_at(t, caller);
-    let group = k.group;
+    let group = slot::kin_at(t, caller).group;
     reap_threads(t, group);
     match scans::thread_of(t, group) {
         Some(i) => await_thread(t, hart, status, caller, i),
@@ -91,26 +87,12 @@ fn exit_thread(t: &mut [u64; Table::WORDS], hart: usize, status: u64, caller: us
 }
 
 // ---- the calls
-fn is_slot(i: usize, p: Option<Slot>) -> bool
-    ensures { result ≡ is_slot i p }
-{
-    match p {
-        None => false,
-        Some(x) => i == x.0,
-    }
-}
-
 // Init and system threads leave in neither way.
 fn stays(t: &[u64; Table::WORDS], caller: usize) -> bool
     requires { caller < slot_count }
     ensures { result ≡ stays (table_of t.now) caller }
 {
-    let init = book::init(t);
-    if is_slot(caller, init) {
-        return true;
-    }
-    let k = slot::kin_at(t, caller);
-    k.system
+    book::init(t) == Some(Slot(caller)) || slot::kin_at(t, caller).system
 }
 
 fn thread_exit_by(t: &mut [u64; Table::WORDS], hart: usize, status: u64, caller: usize) -> Answer
@@ -120,8 +102,7 @@ fn thread_exit_by(t: &mut [u64; Table::WORDS], hart: usize, status: u64, caller:
     if stays(t, caller) {
         return Err(Refusal::WrongWayOut);
     }
-    let k = slot::kin_at(t, caller);
-    if k.thread {
+    if slot::kin_at(t, caller).thread {
         return exit_thread(t, hart, status, caller);
     }
     exit_leader(t, hart, status, caller)
@@ -132,8 +113,7 @@ fn exit_by(t: &mut [u64; Table::WORDS], hart: usize, status: u64, caller: usize)
     requires { (hart < hart_count) × (caller < slot_count) × Sound (table_of t.old) }
     ensures { Makes (exited_by (table_of t.old) hart status caller) result (table_of t.new) }
 {
-    let k = slot::kin_at(t, caller);
-    if k.thread {
+    if slot::kin_at(t, caller).thread {
         return Err(Refusal::WrongWayOut);
     }
     thread_exit_by(t, hart, status, caller)
@@ -143,20 +123,14 @@ pub fn exit(t: &mut [u64; Table::WORDS], hart: usize, status: u64) -> Answer
     requires { Sound (table_of t.old) }
     ensures { Did (exit hart status) (table_of t.old) result (table_of t.new) }
 {
-    let c = taking::caller_on(t, hart);
-    match c {
-        Err(n) => Err(n),
-        Ok(caller) => exit_by(t, hart, status, caller),
-    }
+    let caller = taking::caller_on(t, hart)?;
+    exit_by(t, hart, status, caller)
 }
 
 pub fn thread_exit(t: &mut [u64; Table::WORDS], hart: usize, status: u64) -> Answer
     requires { Sound (table_of t.old) }
     ensures { Did (thread_exit hart status) (table_of t.old) result (table_of t.new) }
 {
-    let c = taking::caller_on(t, hart);
-    match c {
-        Err(n) => Err(n),
-        Ok(caller) => thread_exit_by(t, hart, status, caller),
-    }
+    let caller = taking::caller_on(t, hart)?;
+    thread_exit_by(t, hart, status, caller)
 }

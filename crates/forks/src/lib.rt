@@ -22,32 +22,23 @@ fn fork_in(t: &mut [u64; Table::WORDS], caller: usize, g: usize, child: usize) -
     let n = book::pids(t);
     let space = book::group_at(t, g);
     let new = scans::new_group(t);
-    let w = slot::start_at(t, caller);
-    let k = Kin {
+    let kin = Kin {
         group: Some(new),
         parent: Some(Slot(caller)),
         thread: false,
         system: false,
     };
-    let b = StartWords {
+    let start = StartWords {
         below: 0,
         sp: stacks::user_sp(child),
         entry: 0,
         top: 0,
         arg: 0,
         ret: 0,
-        name0: w.name0,
-        name1: w.name1,
+        ..slot::start_at(t, caller)
     };
-    taking::fill(t, child, n, k, b);
-    book::set_group(
-        t,
-        new,
-        Group {
-            size: space.size,
-            count: 1,
-        },
-    );
+    taking::fill(t, child, n, kin, start);
+    book::set_group(t, new, Group { count: 1, ..space });
     moves::make_runnable(t, child);
     Ok(Grant::Made(Pid(n)))
 }
@@ -56,68 +47,39 @@ fn fork_by(t: &mut [u64; Table::WORDS], memory: bool, caller: usize) -> Answer
     requires { (caller < slot_count) × Sound (table_of t.old) }
     ensures { Makes (forked_by (table_of t.old) memory caller) result (table_of t.new) }
 {
-    let k = slot::kin_at(t, caller);
-    let group = k.group;
-    let Some(g) = group else {
-        return Err(Refusal::NoGroup);
-    };
-    match taking::alloc_proc(t) {
-        Err(n) => Err(n),
-        Ok(child) => {
-            if memory {
-                return fork_in(t, caller, g, child);
-            }
-            Err(Refusal::NoMemory)
-        }
+    let g = slot::kin_at(t, caller).group.ok_or(Refusal::NoGroup)?;
+    let child = taking::alloc_proc(t)?;
+    if !memory {
+        return Err(Refusal::NoMemory);
     }
+    fork_in(t, caller, g, child)
 }
 
 pub fn fork(t: &mut [u64; Table::WORDS], hart: usize, memory: bool) -> Answer
     requires { Sound (table_of t.old) }
     ensures { Did (fork hart memory) (table_of t.old) result (table_of t.new) }
 {
-    let c = taking::caller_on(t, hart);
-    match c {
-        Err(n) => Err(n),
-        Ok(caller) => fork_by(t, memory, caller),
-    }
+    let caller = taking::caller_on(t, hart)?;
+    fork_by(t, memory, caller)
 }
 
 // ---- threads
+#[tactic(auto, unfolding(rules::specs::Calls::wrong_ask, rules::specs::Sizes::address_top, rules::specs::Sizes::page_size))]
 fn wrong_ask(ask: ThreadAsk, size: u64) -> bool
     ensures { result ≡ wrong_ask ask size }
 {
-    if ask.stack > u64::MAX - stacks::PAGE {
-        return true;
-    }
-    if ask.stack % stacks::PAGE != 0 {
-        return true;
-    }
-    if size < ask.stack + stacks::PAGE {
-        return true;
-    }
-    if ask.entry >= size {
-        return true;
-    }
-    if ask.ret >= size {
-        return true;
-    }
-    false
+    let top = ask.stack.checked_add(stacks::PAGE);
+    ask.stack % stacks::PAGE != 0
+        || top.is_none_or(|top| size < top)
+        || ask.entry >= size
+        || ask.ret >= size
 }
 
+#[tactic(auto, unfolding(rules::specs::Calls::unmapped))]
 fn unmapped(mapped: Mapped) -> bool
     ensures { result ≡ unmapped mapped }
 {
-    if !mapped.entry {
-        return true;
-    }
-    if !mapped.ret {
-        return true;
-    }
-    if !mapped.stack {
-        return true;
-    }
-    !mapped.top
+    !(mapped.entry && mapped.ret && mapped.stack && mapped.top)
 }
 
 // Whose child a thread of s is: a thread's is its leader's.
@@ -126,10 +88,10 @@ fn leader_of(k: Kin, caller: usize) -> Option<Slot>
     ensures { (result ≡ cond k.thread k.parent (Some (slot caller))) × InTable result }
 {
     if k.thread {
-        let parent = k.parent;
-        return parent;
+        k.parent
+    } else {
+        Some(Slot(caller))
     }
-    Some(Slot(caller))
 }
 
 fn thread_in(
@@ -143,25 +105,22 @@ fn thread_in(
     ensures { Makes (threaded_in ask caller g i (table_of t.old)) result (table_of t.new) }
 {
     let n = book::pids(t);
-    let w = slot::start_at(t, caller);
-    let parent = leader_of(slot::kin_at(t, caller), caller);
-    let k = Kin {
+    let kin = Kin {
         group: Some(g),
-        parent,
+        parent: leader_of(slot::kin_at(t, caller), caller),
         thread: true,
         system: false,
     };
-    let b = StartWords {
+    let start = StartWords {
         below: stacks::below(i),
         sp: stacks::user_sp(i),
         entry: ask.entry,
         top: ask.stack + stacks::PAGE,
         arg: ask.arg,
         ret: ask.ret,
-        name0: w.name0,
-        name1: w.name1,
+        ..slot::start_at(t, caller)
     };
-    taking::fill(t, i, n, k, b);
+    taking::fill(t, i, n, kin, start);
     taking::join_group(t, g);
     moves::make_runnable(t, i);
     Ok(Grant::Made(Pid(n)))
@@ -171,22 +130,15 @@ fn thread_by(t: &mut [u64; Table::WORDS], ask: ThreadAsk, mapped: Mapped, caller
     requires { (caller < slot_count) × Sound (table_of t.old) }
     ensures { Makes (threaded_by (table_of t.old) ask mapped caller) result (table_of t.new) }
 {
-    let k = slot::kin_at(t, caller);
-    let group = k.group;
-    let Some(g) = group else {
-        return Err(Refusal::NoGroup);
-    };
-    let space = book::group_at(t, g);
-    if wrong_ask(ask, space.size) {
+    let g = slot::kin_at(t, caller).group.ok_or(Refusal::NoGroup)?;
+    if wrong_ask(ask, book::group_at(t, g).size) {
         return Err(Refusal::BadAddress);
     }
     if unmapped(mapped) {
         return Err(Refusal::Unmapped);
     }
-    match taking::alloc_proc(t) {
-        Err(n) => Err(n),
-        Ok(i) => thread_in(t, ask, caller, g, i),
-    }
+    let i = taking::alloc_proc(t)?;
+    thread_in(t, ask, caller, g, i)
 }
 
 pub fn create_user_thread(
@@ -198,9 +150,6 @@ pub fn create_user_thread(
     requires { Sound (table_of t.old) }
     ensures { Did (thread hart ask mapped) (table_of t.old) result (table_of t.new) }
 {
-    let c = taking::caller_on(t, hart);
-    match c {
-        Err(n) => Err(n),
-        Ok(caller) => thread_by(t, ask, mapped, caller),
-    }
+    let caller = taking::caller_on(t, hart)?;
+    thread_by(t, ask, mapped, caller)
 }

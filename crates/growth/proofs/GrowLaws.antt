@@ -1,54 +1,84 @@
 -- Each way through grow, as the rules have it.
-use Rattle.std.specs.Prelude.{Option, Some, None, Ok, Err}
+use Rattle.std.specs.Prelude.{Option, Some, None, Ok, Err, IsErr, IsErrAnd, ok_or}
 use Prim.Native.Nat.{ℕ}
-use mathlib.Core.Path.{◌≡◌, refl, sym, ap, subst, ◌∙◌}
+use mathlib.Core.Path.{◌≡◌, refl, sym, ap, ◌∙◌}
 use mathlib.Core.Bool.{Bool, true, false, not, ◌&&◌}
-use lib.IntN.{ℤ, pos, ◌+ℤ◌}
+use mathlib.Core.Logic.{◌⊎◌, inl, inr}
+use lib.IntN.{ℤ, pos, negsuc, ◌+ℤ◌}
+use lib.Signed.{lt_z}
 use Rattle.rules.specs.declared.Group.{Group}
+use Rattle.rules.specs.declared.Kin.{Kin}
 use Rattle.rules.specs.declared.Refusal.{Refusal}
 use Rattle.rules.specs.declared.Refusal.TheVariants.{NoGroup, SizeOutOfLimits, NoMemory}
 use Rattle.rules.specs.Types.{Answer}
 use Rattle.rules.specs.declared.Grant.TheVariants.{Done}
 use Rattle.rules.specs.Model.{Table, at, group_at}
 use Rattle.rules.specs.Moves.{resize}
-use Rattle.rules.specs.Calls.{within, upward, grown, grown_by, grown_to}
+use Rattle.rules.specs.Calls.{found, within, upward, grown, grown_by, grown_to}
 use Rattle.rules.specs.Runs.{step, grow}
-use Rattle.promises.specs.Did.{Makes}
+use Rattle.promises.specs.Order.Sound.{Sound}
+use Rattle.promises.specs.Did.{Makes, Did}
+use Rattle.promises.proofs.Did.{did}
 use Rattle.words.specs.Effects.{on_books}
 use Rattle.taking.specs.Parts.{caller_of}
-use Rattle.taking.proofs.Facts.{given, if-so, if-not, found_none, found_at, hart-no, hart-is, group-alone, group-in}
+use Rattle.taking.proofs.Facts.{given, if-so, if-not, found_none, found_at, hart-no, hart-is, group-alone, group-in, exit-refused}
 
-module _ (t : Table) (d : ℤ) (memory : Bool) (s : ℕ) where
-  pub by-alone : None ≡ (at t.core s).kin.group → Makes (grown_by t d memory s) (Err NoGroup) t
-  unfolding grown_by
-  by-alone e = group-alone t s _ e
+lacking : {n m : Refusal} (o : Option ℕ) → Err n ≡ ok_or o m → (n ≡ m) × (None ≡ o)
+lacking None e = (cc, refl)
+lacking (Some i) e = absurd cc
 
-  -- z is the count as it was handed on
-  module _ {z : ℤ} (i : z ≡ d) {g : ℕ} (e : Some g ≡ (at t.core s).kin.group) {x : Group} (f : x ≡ group_at t.books g) (r : Option ℕ) (q : r ≡ within (pos x.size +ℤ z)) where
-    size_is : (y : Option ℕ) → y ≡ r → y ≡ within (pos (group_at t.books g).size +ℤ d)
-    size_is y o = o ∙ q ∙ ap (λ (x : Group). within (pos x.size +ℤ z)) f ∙ ap (λ (z : ℤ). within (pos (group_at t.books g).size +ℤ z)) i
+-- ---- whether the host's answer counts
+over : (z : ℤ) → lt_z (pos 0) z ≡ upward z
+unfolding upward
+over (pos n) = refl
+over (negsuc n) = refl
 
-    pub by_out : None ≡ r → Makes (grown_by t d memory s) (Err SizeOutOfLimits) t
+-- z is the count as it was handed on
+module _ {z d : ℤ} (i : z ≡ d) where
+  asked : {memory : Bool} → lt_z (pos 0) z ≡ true → memory ≡ false → (upward d && not memory) ≡ true
+  asked e f = rw (sym (over d) ∙ ap (lt_z (pos 0)) (sym i) ∙ e, f)
+
+  unasked : {memory : Bool} → ((lt_z (pos 0) z ≡ true) × (memory ≡ true)) ⊎ (lt_z (pos 0) z ≡ false) → (upward d && not memory) ≡ false
+  unasked (inl (e, f)) = rw (sym (over d) ∙ ap (lt_z (pos 0)) (sym i) ∙ e, f)
+  unasked (inr e) = rw (sym (over d) ∙ ap (lt_z (pos 0)) (sym i) ∙ e)
+
+  sized : {x y : Group} {o : Option ℕ} → x ≡ y → o ≡ within (pos x.size +ℤ z) → o ≡ within (pos y.size +ℤ d)
+  sized {y = y} b q = q ∙ ap (λ (x : Group). within (pos x.size +ℤ z)) b ∙ ap (λ (z : ℤ). within (pos y.size +ℤ z)) i
+
+-- ---- grow, step by step
+module _ {t : Table} {h : ℕ} {d : ℤ} {memory : Bool} (w : Sound t) where
+  pub grow-no : {r : Answer} {n : Refusal} → Err n ≡ caller_of t.core h → IsErr r × IsErrAnd r (λ m. m ≡ n) → Did (grow h d memory) t r t
+  unfolding step grown
+  grow-no e f = did w (exit-refused f (hart-no t h _ e))
+
+  module _ {s : ℕ} (c : Ok s ≡ caller_of t.core h) {k : Kin} (e : k ≡ (at t.core s).kin) where
+    at-caller : {a : Answer} {u : Table} → Makes (grown_by t d memory s) a u → Did (grow h d memory) t a u
+    unfolding step grown
+    at-caller m = did w (hart-is t h _ c m)
+
+    pub grow-alone : {r : Answer} {n : Refusal} → Err n ≡ ok_or k.group NoGroup → IsErr r × IsErrAnd r (λ m. m ≡ n) → Did (grow h d memory) t r t
     unfolding grown_by
-    by_out o = group-in t s _ e (found_none _ (size_is None o))
+    grow-alone l f = let y = lacking k.group l in at-caller (exit-refused f (rw y.0 (group-alone t s _ (y.1 ∙ ap (λ (k : Kin). k.group) e))))
 
-    module _ {n : ℕ} (o : Some n ≡ r) {b : Bool} (k : b ≡ (upward z && not memory)) where
-      asked : upward d && not memory ≡ b
-      asked = ap (λ (z : ℤ). upward z && not memory) (sym i) ∙ sym k
+    module _ {g : ℕ} (j : k.group ≡ Some g) {x : Group} (b : x ≡ group_at t.books g) {z : ℤ} (i : z ≡ d) {o : Option ℕ} (q : o ≡ within (pos x.size +ℤ z)) where
+      at-group : {a : Answer} {u : Table} → Makes (found SizeOutOfLimits t (within (pos (group_at t.books g).size +ℤ d)) (grown_to t d memory g)) a u → Did (grow h d memory) t a u
+      unfolding grown_by
+      at-group m = at-caller (group-in t s _ (sym j ∙ ap (λ (k : Kin). k.group) e) m)
 
-      pub by-no-memory : b ≡ true → Makes (grown_by t d memory s) (Err NoMemory) t
-      unfolding grown_by grown_to
-      by-no-memory y = group-in t s _ e (found_at _ t _ (size_is (Some n) o) (if-so _ (asked ∙ y)))
+      pub grow-out : {r : Answer} {n : Refusal} → Err n ≡ ok_or o SizeOutOfLimits → IsErr r × IsErrAnd r (λ m. m ≡ n) → Did (grow h d memory) t r t
+      grow-out l f = let y = lacking o l in at-group (exit-refused f (rw y.0 (found_none _ (y.1 ∙ sized i b q))))
 
-      pub by-done : {u : Table} → b ≡ false → u ≡ on_books (resize g n) t → Makes (grown_by t d memory s) (Ok Done) u
-      unfolding grown_by grown_to on_books
-      by-done y w = group-in t s _ e (found_at _ t _ (size_is (Some n) o) (if-not _ t (asked ∙ y) (given refl w)))
+      module _ {n : ℕ} (y : o ≡ Some n) where
+        at-size : {a : Answer} {u : Table} → Makes (grown_to t d memory g n) a u → Did (grow h d memory) t a u
+        at-size m = at-group (found_at _ t _ (sym y ∙ sized i b q) m)
 
-module _ (t : Table) (h : ℕ) (d : ℤ) (memory : Bool) where
-  pub grow-no : (n : Refusal) → Err n ≡ caller_of t.core h → Makes (step t (grow h d memory)) (Err n) t
-  unfolding step grown
-  grow-no n e = hart-no t h _ e
+        pub grow-unfed : lt_z (pos 0) z ≡ true → memory ≡ false → Did (grow h d memory) t (Err NoMemory) t
+        unfolding grown_to
+        grow-unfed p l = at-size (if-so _ (asked i p l))
 
-  pub grow-is : {z : ℤ} {s : ℕ} {a : Answer} {u : Table} → z ≡ d → Ok s ≡ caller_of t.core h → Makes (grown_by t z memory s) a u → Makes (step t (grow h d memory)) a u
-  unfolding step grown
-  grow-is {s = s} {a = a} {u = u} i e m = hart-is t h _ e (subst (λ (y : ℤ). Makes (grown_by t y memory s) a u) i m)
+        pub grow-is : {u : Table} → ((lt_z (pos 0) z ≡ true) × (memory ≡ true)) ⊎ (lt_z (pos 0) z ≡ false) → u ≡ on_books (resize g n) t → Did (grow h d memory) t (Ok Done) u
+        unfolding grown_to on_books
+        grow-is p v = at-size (if-not _ t (unasked i p) (given refl v))
+
+-- ---- what the check answers refusals by
+pub ruleset refusals = (grow-no, grow-alone)

@@ -1,62 +1,38 @@
--- A size plus a signed count, as the code computes it.
-use Rattle.std.specs.Prelude.{Some, None}
-use Prim.Native.Nat.{ℕ, suc, ◌+◌, ◌-◌, ◌≤◌, ◌<◌}
+-- A size plus a signed count, within the limits.
+use Rattle.std.specs.Prelude.{Option, Some, None, SomeIff, MatchOption, cond, leb}
+use Rattle.std.specs.Bool.{then_some}
+use Rattle.std.specs.Int.{FitsUnsigned}
+use Prim.Native.Nat.{ℕ, ◌^◌, ◌≤◌, ◌<◌}
 use native.Mathlib.Omega.{arith}
-use mathlib.Core.Path.{◌≡◌, refl, sym, ap, ◌∙◌}
-use mathlib.Core.Bool.{Bool, true, false, not, ◌&&◌}
-use lib.IntN.{ℤ, pos, negsuc, nat_abs, ◌+ℤ◌, ◌-ℤ◌}
-use lib.Signed.{lt_z}
+use mathlib.Core.Path.{◌≡◌, refl, ◌∙◌}
+use mathlib.Core.Bool.{Bool, true, false}
+use lib.IntN.{ℤ, pos, negsuc, nat_abs}
 use mir.Syntax.{w64}
-use mir.Val.{SFits}
-use mir.Facts.{to_z-of_z}
-use borrow.Author.Tests.{lt-ltb, le-ltb, le-leb, lt-leb}
-use Rattle.rules.specs.Sizes.{size_top}
-use Rattle.rules.specs.Calls.{within, upward}
-use Rattle.promises.specs.Laws.Signs.{again, down, less-is, more, more-is}
+use borrow.Author.Tests.{lt-leb, ltb-false, ltb-true}
+use lib.Dec.{ltb}
+use Rattle.std.proofs.lemmas.Int.{ints}
+use Rattle.rules.specs.Sizes.{size_top, slot_count, page_size, trampoline, trapframe}
+use Rattle.rules.specs.Calls.{within}
 
--- ---- up
-module _ (size up : ℕ) where
-  pub raised-far : size_top - size < up → None ≡ within (pos size +ℤ pos up)
-  unfolding within
-  raised-far b = rw (lt-leb (size + up) size_top (omega arith))
+-- what cannot be held is over the limit
+over : (n : ℕ) → (FitsUnsigned w64 (pos n) → ⊥) → leb n size_top ≡ false
+unfolding size_top trapframe trampoline page_size slot_count
+over n f = go (ltb n (2 ^ 64)) refl
+  where
+    go : (b : Bool) → ltb n (2 ^ 64) ≡ b → leb n size_top ≡ false
+    go true e = let z : n < 2 ^ 64 = ltb-true n (2 ^ 64) e in absurd (f (omega (arith, ints), omega (arith, ints)))
+    go false e = let z : 2 ^ 64 ≤ n = ltb-false n (2 ^ 64) e in lt-leb n size_top (omega arith)
 
-  pub raised-in : size ≤ size_top → up ≤ size_top - size → Some (size + up) ≡ within (pos size +ℤ pos up)
-  unfolding within
-  raised-in b d = rw (le-leb (size + up) size_top (omega arith))
+kept : {x n : ℕ} (b : Bool) → x ≡ n → then_some b x ≡ cond b (Some n) None
+kept true e = cc
+kept false e = refl
 
--- ---- down by one more than `less`
-module _ (size less : ℕ) where
-  pub lowered-out : size ≤ less → None ≡ within (pos size +ℤ negsuc less)
-  unfolding within
-  lowered-out b = rw (lt-ltb size (suc less) (omega arith))
-
-  module _ (b : less < size) where
-    left : size - suc less ≡ size - 1 - less
-    left = omega arith
-
-    pub lowered-in : size ≤ size_top → Some (size - 1 - less) ≡ within (pos size +ℤ negsuc less)
-    unfolding within
-    lowered-in d = rw (le-ltb size (suc less) b, left, le-leb (size - 1 - less) size_top (omega arith))
-
--- ---- the count, by its sign
-over : (z : ℤ) → lt_z (pos 0) z ≡ upward z
-unfolding upward
-over (pos n) = refl
-over (negsuc n) = refl
-
-module _ (z : ℤ) (f : SFits w64 z) where
-  pub less-size : lt_z (again w64 z) (pos 0) ≡ true → (n : ℕ) → within (pos n +ℤ negsuc (nat_abs (again w64 (negsuc 0 -ℤ again w64 z)))) ≡ within (pos n +ℤ z)
-  less-size e n = ap (λ (y : ℤ). within (pos n +ℤ negsuc (nat_abs y))) (less-is z f e) ∙ ap (λ (y : ℤ). within (pos n +ℤ y)) (sym (down z f e))
-
-  pub more-size : lt_z (again w64 z) (pos 0) ≡ false → (n : ℕ) → within (pos n +ℤ pos (nat_abs (again w64 z))) ≡ within (pos n +ℤ z)
-  more-size e n = ap (λ (y : ℤ). within (pos n +ℤ pos (nat_abs y))) (more-is z f e) ∙ ap (λ (y : ℤ). within (pos n +ℤ y)) (sym (more z f e))
-
-  asks : lt_z (pos 0) (again w64 z) ≡ upward z
-  asks = ap (lt_z (pos 0)) (to_z-of_z f) ∙ over z
-
-  module _ (memory : Bool) where
-    pub upward-asks : lt_z (pos 0) (again w64 z) ≡ true → not memory ≡ (upward z && not memory)
-    upward-asks e = rw (sym asks ∙ e)
-
-    pub downward-asks : lt_z (pos 0) (again w64 z) ≡ false → false ≡ (upward z && not memory)
-    downward-asks e = rw (sym asks ∙ e)
+-- `filter` ran on the sum
+pub filtered : {Gives : ℕ → Bool → Type 0} (o : Option ℕ) {r : Option ℕ} (z : ℤ) → SomeIff o (FitsUnsigned w64 z) (nat_abs z)
+    → MatchOption o (r ≡ None) (λ x. (b : Bool) × Gives x b × (r ≡ then_some b x))
+    → ((x : ℕ) (b : Bool) → Gives x b → b ≡ leb x size_top) → r ≡ within z
+unfolding within
+filtered None (pos n) f e t = rw (over n f) e
+filtered None (negsuc n) f e t = e
+filtered (Some x) (pos n) f (b, g, e) t = let k : x ≡ n = f.1 in rw (← k) (e ∙ rw (t x b g) (kept (leb x size_top) refl))
+filtered (Some x) (negsuc n) f e t = absurd (omega (arith, ints, f.0))

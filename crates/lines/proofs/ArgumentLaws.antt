@@ -1,25 +1,24 @@
 -- The arguments of a command, as the code gathers them one by one.
-use Rattle.std.specs.Prelude.{Result, Ok, Err}
-use Prim.Native.Nat.{ℕ, suc, ◌+◌, ◌-◌, ◌≤◌, ◌<◌}
+use Rattle.std.specs.Prelude.{Result, Ok, Err, map}
+use Prim.Native.Nat.{ℕ, zero, suc, ◌+◌, ◌≤◌, ◌<◌}
 use native.Mathlib.Omega.{arith}
 use mathlib.Core.Path.{◌≡◌, refl, sym, ap, ◌∙◌, subst}
 use mathlib.Core.List.{List, [], ◌∷◌, ◌++◌, append-nil}
-use lib.ListN.{length, set, take, drop, length-drop, drop_of_length-le, get_or-eq_default}
-use lib.Seq.{drop-cons, append_snoc, length-take-le}
-use mathlib.Core.Bool.{Bool, true, false}
-use lib.Dec.{ltb}
-use borrow.Author.Tests.{lt-ltb, le-ltb, ltb-true, ltb-false}
+use lib.ListN.{length, get_or, set, drop, drop_of_length-le}
+use lib.Seq.{drop-cons, append_snoc}
+use mathlib.Core.Bool.{true, false, cond}
+use lib.Dec.{ltb, eqb}
+use borrow.Author.Tests.{lt-ltb, eqb-true}
 use Rattle.buffers.specs.Text.{Wrote}
 use Rattle.buffers.proofs.TextLaws.{wrote_none, wrote-long, wrote_one, wrote-more}
+use Rattle.promises.specs.Laws.Bools.{clash}
 use Rattle.lines.specs.declared.Why.{Why}
 use Rattle.lines.specs.declared.Why.TheVariants.{TooMany}
-use Rattle.lines.specs.declared.word.Word.{Word}
-use Rattle.lines.specs.Words.{first_word, Cut}
+use Rattle.lines.specs.declared.value.Kind.{Kind}
+use Rattle.lines.specs.Words.{first_word, after_word}
 use Rattle.lines.specs.Values.{argument_in}
-use Rattle.lines.specs.Kinds.{no_kind}
-use Rattle.lines.specs.Grammar.{command_count, kinds_of, kind_at}
-use Rattle.lines.specs.Meaning.{word_count, Arguments, are, lack, and_more, arguments_in, Told}
-use Rattle.lines.proofs.GrammarLaws.{kinds-few, kinds-end}
+use Rattle.lines.specs.Kinds.{letter}
+use Rattle.lines.specs.Meaning.{Arguments, are, lack, and_more, arguments_in, Told}
 
 unfoldable pub prefixed : List ℕ → Arguments → Arguments
 prefixed l (are m) = are (l ++ m)
@@ -35,77 +34,59 @@ unfolding prefixed and_more
 prefixed-more l v (are m) = ap are (sym (append_snoc l v m))
 prefixed-more l v (lack why) = refl
 
--- the length of the word that was cut
-pub cut-length : {l : List ℕ} {at : ℕ} {w : Word} → Cut l at w → length (first_word (drop at l)) ≡ w.to - w.from
-cut-length {l} {at} {w} c = ap length (sym c.word) ∙ length-take-le (w.to - w.from) (drop w.from l) (omega (arith, length-drop w.from l, c.ends))
-
-lt_of : (a b : ℕ) → (b ≤ a → ⊥) → a < b
-lt_of a b f = go (ltb a b) refl
-  where
-    go : (x : Bool) → ltb a b ≡ x → a < b
-    go true e = ltb-true a b e
-    go false e = absurd (f (ltb-false a b e))
-
-module _ (k : ℕ) (line : List ℕ) (start : ℕ) (b : List ℕ) where
-  -- i arguments are read, and stand in w, which was b
-  pub record Midway (w : List ℕ) (at i kind : ℕ) : Type 0 where
-    pub few : i ≤ length (kinds_of k)
-    pub within : at ≤ length line
-    pub here : kind ≡ kind_at k i
+module _ (ks : List Kind) (line b : List ℕ) where
+  -- i arguments are read, and stand in w, which was b; rest is the line behind them
+  pub record Midway (w : List ℕ) (i : ℕ) (rest : List ℕ) : Type 0 where
+    pub few : i ≤ length ks
     pub values : List ℕ
     pub wrote : Wrote b 1 values w (i + 1)
-    pub sofar : arguments_in (kinds_of k) (drop start line) ≡ prefixed values (arguments_in (drop i (kinds_of k)) (drop at line))
+    pub sofar : arguments_in (map letter ks) line ≡ prefixed values (arguments_in (map letter (drop i ks)) rest)
 
-  pub begun : {kind : ℕ} → start ≤ length line → word_count ≤ length b → kind ≡ kind_at k 0 → Midway b start 0 kind
-  begun h l e = record { few = omega arith; within = h; here = e; values = []; wrote = wrote_none b 1 (omega arith); sofar = sym (prefixed-none _) }
+  pub begun : length ks < length b → Midway b 0 line
+  begun h = record { few = omega arith; values = []; wrote = wrote_none b 1 (omega arith); sofar = sym (prefixed-none _) }
 
-  module _ {w : List ℕ} {at i kind : ℕ} (m : Midway w at i kind) where
-    module _ (h : kind ≡ no_kind → ⊥) where
-      pub one_more : i < length (kinds_of k)
-      unfolding kind_at
-      one_more = lt_of i (length (kinds_of k)) (λ g. h (m.here ∙ get_or-eq_default (kinds_of k) no_kind g))
+  module _ {w : List ℕ} {i : ℕ} {rest : List ℕ} (m : Midway w i rest) where
+    module _ (h : i < length ks) (d : Kind) {word : List ℕ} (e : word ≡ first_word rest) where
+      next-is : arguments_in (map letter (drop i ks)) rest ≡ and_more (argument_in (letter (get_or ks i d)) word) (arguments_in (map letter (drop (suc i) ks)) (after_word rest))
+      unfolding arguments_in
+      next-is = rw (drop-cons ks i d h, e)
 
-      module _ {c : Word} (cut : Cut line at c) where
-        next-is : arguments_in (drop i (kinds_of k)) (drop at line)
-            ≡ and_more (argument_in kind (take (c.to - c.from) (drop c.from line))) (arguments_in (drop (suc i) (kinds_of k)) (drop c.to line))
-        unfolding arguments_in kind_at
-        next-is = rw (drop-cons (kinds_of k) i no_kind one_more, cut.word, cut.rest, m.here)
+      by : (v : Result ℕ Why) → v ≡ argument_in (letter (get_or ks i d)) word
+          → arguments_in (map letter ks) line ≡ prefixed m.values (and_more v (arguments_in (map letter (drop (suc i) ks)) (after_word rest)))
+      by v f = m.sofar ∙ ap (prefixed m.values) (next-is ∙ ap (λ (x : Result ℕ Why). and_more x (arguments_in (map letter (drop (suc i) ks)) (after_word rest))) (sym f))
 
-        by : (v : Result ℕ Why) → v ≡ argument_in kind (take (c.to - c.from) (drop c.from line))
-            → arguments_in (kinds_of k) (drop start line) ≡ prefixed m.values (and_more v (arguments_in (drop (suc i) (kinds_of k)) (drop c.to line)))
-        by v e = m.sofar ∙ ap (prefixed m.values) (next-is ∙ ap (λ (x : Result ℕ Why). and_more x (arguments_in (drop (suc i) (kinds_of k)) (drop c.to line))) (sym e))
+      pub one-not : {why : Why} → Err why ≡ argument_in (letter (get_or ks i d)) word → (a : List ℕ) → Told (arguments_in (map letter ks) line) b (Err why) a
+      unfolding Told prefixed and_more
+      one-not {why} f a = subst (λ (x : Arguments). Told x b (Err why) a) (sym (by (Err why) f)) refl
 
-        pub one-not : {why : Why} → Err why ≡ argument_in kind (take (c.to - c.from) (drop c.from line)) → (d : List ℕ) → Told (arguments_in (kinds_of k) (drop start line)) b (Err why) d
-        unfolding Told prefixed and_more
-        one-not {why} e d = subst (λ (a : Arguments). Told a b (Err why) d) (sym (by (Err why) e)) refl
+      pub next : {v : ℕ} {behind : List ℕ} → Ok v ≡ argument_in (letter (get_or ks i d)) word → behind ≡ after_word rest → length ks < length b → Midway (set w (i + 1) v) (i + 1) behind
+      next {v} f g p = let z : i + 1 ≡ suc i = omega arith in record {
+        few = omega arith;
+        values = m.values ++ (v ∷ []);
+        wrote = wrote-more m.wrote (wrote_one w (i + 1) v (omega (arith, wrote-long m.wrote)));
+        sofar = rw (z, g) (by (Ok v) f ∙ prefixed-more m.values v _);
+      }
 
-        pub next : {v kind' : ℕ} → Ok v ≡ argument_in kind (take (c.to - c.from) (drop c.from line)) → k < command_count → word_count ≤ length b → kind' ≡ kind_at k (i + 1)
-            → Midway (set w (i + 1) v) c.to (i + 1) kind'
-        next {v} e h p f = let z : i + 1 ≡ suc i = omega arith in record {
-          few = omega (arith, one_more);
-          within = cut.ends;
-          here = f;
-          values = m.values ++ (v ∷ []);
-          wrote = wrote-more m.wrote (wrote_one w (i + 1) v (omega (arith, one_more, kinds-few k h, wrote-long m.wrote)));
-          sofar = rw z (by (Ok v) e ∙ prefixed-more m.values v _);
-        }
+    module _ (h : length ks ≤ i) where
+      last-is : arguments_in (map letter ks) line ≡ prefixed m.values (arguments_in [] rest)
+      last-is = m.sofar ∙ rw (drop_of_length-le ks {i = i} h)
 
-    module _ (h : k < command_count) (e : kind ≡ no_kind) {c : Word} (cut : Cut line at c) where
-      last-is : arguments_in (kinds_of k) (drop start line) ≡ prefixed m.values (arguments_in [] (drop at line))
-      last-is = m.sofar ∙ rw (drop_of_length-le (kinds_of k) {i = i} (kinds-end k h i (sym m.here ∙ e)))
+      over : (n : ℕ) → false ≡ eqb n 0 → prefixed m.values (cond (ltb 0 n) (lack TooMany) (are [])) ≡ lack TooMany
+      unfolding prefixed
+      over zero e = absurd (clash e refl)
+      over (suc n) e = rw (lt-ltb 0 (suc n) (omega arith))
 
-      over : c.from < c.to → prefixed m.values (arguments_in [] (drop at line)) ≡ lack TooMany
-      unfolding arguments_in prefixed
-      over l = rw (lt-ltb 0 (length (first_word (drop at line))) (omega (arith, cut-length cut)))
+      exact : (n : ℕ) → true ≡ eqb n 0 → prefixed m.values (cond (ltb 0 n) (lack TooMany) (are [])) ≡ are m.values
+      unfolding prefixed
+      exact n e = rw (eqb-true n 0 (sym e), append-nil)
 
-      exact : c.to ≤ c.from → prefixed m.values (arguments_in [] (drop at line)) ≡ are m.values
-      unfolding arguments_in prefixed
-      exact l = rw (le-ltb 0 (length (first_word (drop at line))) (omega (arith, cut-length cut)), append-nil)
+      module _ {word : List ℕ} (e : word ≡ first_word rest) where
+        pub too_many : false ≡ eqb (length word) 0 → Told (arguments_in (map letter ks) line) b (Err TooMany) w
+        unfolding Told arguments_in
+        too_many f = let g : false ≡ eqb (length (first_word rest)) 0 = f ∙ ap (λ (x : List ℕ). eqb (length x) 0) e in
+            subst (λ (x : Arguments). Told x b (Err TooMany) w) (sym (last-is ∙ over (length (first_word rest)) g)) refl
 
-      pub too_many : c.from < c.to → Told (arguments_in (kinds_of k) (drop start line)) b (Err TooMany) w
-      unfolding Told
-      too_many l = subst (λ (a : Arguments). Told a b (Err TooMany) w) (sym (last-is ∙ over l)) refl
-
-      pub all_there : c.to ≤ c.from → Told (arguments_in (kinds_of k) (drop start line)) b (Ok tt) w
-      unfolding Told
-      all_there l = subst (λ (a : Arguments). Told a b (Ok tt) w) (sym (last-is ∙ exact l)) m.wrote.buffer
+        pub all_there : true ≡ eqb (length word) 0 → Told (arguments_in (map letter ks) line) b (Ok tt) w
+        unfolding Told arguments_in
+        all_there f = let g : true ≡ eqb (length (first_word rest)) 0 = f ∙ ap (λ (x : List ℕ). eqb (length x) 0) e in
+            subst (λ (x : Arguments). Told x b (Ok tt) w) (sym (last-is ∙ exact (length (first_word rest)) g)) m.wrote.buffer

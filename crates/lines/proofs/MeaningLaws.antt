@@ -1,15 +1,15 @@
 -- What a line means, as the code finds it out.
-use Rattle.std.specs.Prelude.{Result, Ok, Err, Option, Some, None}
-use Prim.Native.Nat.{ℕ, ◌+◌, ◌-◌, ◌≤◌, ◌<◌}
+use Rattle.std.specs.Prelude.{Result, Ok, Err, Option, Some, None, MatchOption}
+use Prim.Native.Nat.{ℕ, ◌+◌, ◌≤◌, ◌<◌}
 use Prim.Native.Char.{code}
 use native.Mathlib.Omega.{arith}
 use mathlib.Core.Path.{◌≡◌, refl, sym, ap, ◌∙◌, subst}
 use mathlib.Core.Bool.{Bool, true, false, cond, ◌||◌}
 use mathlib.Core.List.{List, [], ◌∷◌}
-use lib.ListN.{length, get_or, take, drop, replicate, length-drop}
-use lib.Seq.{length-take-le, get_or-take, get_or-drop}
+use lib.ListN.{length, get_or, replicate}
 use lib.Dec.{eqb, ltb}
-use borrow.Author.Tests.{lt-ltb, le-ltb, eq-eqb, ne_eqb}
+use borrow.Author.Tests.{lt-ltb, le-ltb, eq-eqb, ne_eqb, eqb-true}
+use Rattle.promises.specs.Laws.Bools.{clash}
 use Rattle.rules.specs.Listing.{bytes}
 use Rattle.rules.specs.Runs as rules
 use Rattle.buffers.specs.Text.{Wrote}
@@ -18,22 +18,25 @@ use Rattle.steps.specs.declared.Call.{Call}
 use Rattle.codes.specs.Codes.{call_in}
 use Rattle.lines.specs.declared.Said.{Said}
 use Rattle.lines.specs.declared.Said.TheVariants.{Spawn}
+use Rattle.lines.specs.declared.Said.TheVariants as said
 use Rattle.lines.specs.declared.Why.{Why}
-use Rattle.lines.specs.declared.Why.TheVariants.{UnknownWord, TooFew, NotAName}
-use Rattle.lines.specs.declared.word.Word.{Word}
-use Rattle.lines.specs.Words.{first_word, after_word, Cut}
+use Rattle.lines.specs.declared.Why.TheVariants.{UnknownWord, TooFew, NotAName, NotAChoice}
+use Rattle.lines.specs.Words.{first_word, after_word}
 use Rattle.lines.specs.Values.{name_good, name_bytes, name_worth, value_in, argument_in}
 use Rattle.lines.specs.Kinds.{a_number, a_name}
 use Rattle.lines.specs.Grammar.{command, grammar, first_call, command_count, command_of, is_command, kinds_of}
 use Rattle.lines.specs.Meaning.{word_count, Arguments, are, lack, and_more, arguments_in, Told, passed, called, listed, shows, renews, misread, called_by, words_of, command_means, with_arguments, means, said_by, meaning_of, NameThere}
 use Rattle.lines.proofs.GrammarLaws.{spawn-is, list-is, show-is, fresh-is, spawn-alone}
-use Rattle.lines.proofs.ArgumentLaws.{cut-length}
 
 -- ---- the call
 said-called : (name : List ℕ) (o : Option Call) → meaning_of name (said_by o) ≡ called_by o
 unfolding called_by
 said-called name None = refl
 said-called name (Some c) = refl
+
+pub call-or-not : (o : Option Call) {r : Said} → MatchOption o (r ≡ said.Misread NotAChoice) (λ c. r ≡ said.Call c) → r ≡ said_by o
+call-or-not None e = e
+call-or-not (Some c) e = e
 
 -- ---- the command
 module _ (k : ℕ) (l w : List ℕ) where
@@ -84,9 +87,6 @@ name-there k l b d t e = go (argument_in a_name (first_word l)) refl (arguments_
     go (Err why) e a t = absurd t
 
 -- ---- the arguments
-pub told-by : (a : Arguments) (b d : List ℕ) (r x : Result Unit Why) → r ≡ x → Told a b r d → Told a b x d
-told-by a b d r x e t = subst (λ (y : Result Unit Why). Told a b y d) e t
-
 pub told-all : (k : ℕ) (l d : List ℕ) (a : Arguments) → Told a (replicate word_count 0) (Ok tt) d → command_means k l d ≡ with_arguments k l a
 unfolding Told with_arguments
 told-all k l d (are vs) t = ap (command_means k l) t
@@ -120,29 +120,23 @@ module _ (l : List ℕ) where
     unfolding means
     known-word {k} g h = rw (ne_eqb (length (first_word l)) 0 e, ne_eqb (get_or (first_word l) 0 0) (code "#") f, ← g, lt-ltb k command_count h)
 
--- the first byte of the word that was cut
-pub cut-first : {l : List ℕ} {at : ℕ} {w : Word} → Cut l at w → w.from < w.to → get_or (first_word (drop at l)) 0 0 ≡ get_or l w.from 0
-cut-first {l} {at} {w} c h = let z : w.from + 0 ≡ w.from = omega arith in
-    ap (λ (x : List ℕ). get_or x 0 0) (sym c.word) ∙ get_or-take (w.to - w.from) (drop w.from l) 0 0 (omega arith) ∙ get_or-drop w.from l 0 0 ∙ ap (λ (k : ℕ). get_or l k 0) z
-
--- a word that was cut is no longer than the line
-pub cut_short : {l : List ℕ} {at : ℕ} {w : Word} → Cut l at w → length (take (w.to - w.from) (drop w.from l)) ≤ length l
-cut_short {l} {at} {w} c = omega (arith, length-take-le (w.to - w.from) (drop w.from l) (omega (arith, length-drop w.from l, c.ends)), c.ends)
-
 -- ---- the word at the front, found
-module _ {l : List ℕ} {c : Word} (cut : Cut l 0 c) {k : ℕ} (e : k ≡ command_of (take (c.to - c.from) (drop c.from l))) where
-  pub found-command : k ≡ command_of (first_word l)
-  found-command = e ∙ ap command_of cut.word
+module _ (l : List ℕ) {word : List ℕ} (e : word ≡ first_word l) where
+  first-byte : get_or word 0 0 ≡ get_or (first_word l) 0 0
+  first-byte = ap (λ (x : List ℕ). get_or x 0 0) e
 
-  module _ (h : c.from < c.to) (f : get_or l c.from 0 ≡ code "#" → ⊥) where
-    pub not-empty : length (first_word l) ≡ 0 → ⊥
-    not-empty z = omega (arith, z, cut-length cut)
+  pub nothing-there : true ≡ eqb (length word) 0 → passed ≡ means l
+  nothing-there f = empty-passed l (ap length (sym e) ∙ eqb-true (length word) 0 (sym f))
 
-    pub not-hash : get_or (first_word l) 0 0 ≡ code "#" → ⊥
-    not-hash z = f (sym (cut-first cut h) ∙ z)
+  pub hash-there : get_or word 0 0 ≡ code "#" → passed ≡ means l
+  hash-there f = hash-passed l (sym first-byte ∙ f)
 
-    pub no-command : command_count ≤ k → misread UnknownWord ≡ means l
-    no-command g = unknown-word l not-empty not-hash (rw (← found-command) g)
+  module _ (f : false ≡ eqb (length word) 0) (g : get_or word 0 0 ≡ code "#" → ⊥) where
+    not-empty : length (first_word l) ≡ 0 → ⊥
+    not-empty z = clash (eq-eqb (length word) 0 (ap length e ∙ z)) (sym f)
 
-    pub a-command : k < command_count → with_arguments k (drop c.to l) (arguments_in (kinds_of k) (drop c.to l)) ≡ means l
-    a-command g = rw cut.rest (known-word l not-empty not-hash found-command g)
+    pub no-command : command_count ≡ command_of word → misread UnknownWord ≡ means l
+    no-command h = unknown-word l not-empty (λ z. g (first-byte ∙ z)) (let k : command_count ≡ command_of (first_word l) = h ∙ ap command_of e in omega arith)
+
+    pub a-command : {k : ℕ} → k ≡ command_of word → k < command_count → {rest : List ℕ} → rest ≡ after_word l → with_arguments k rest (arguments_in (kinds_of k) rest) ≡ means l
+    a-command h s r = rw r (known-word l not-empty (λ z. g (first-byte ∙ z)) (h ∙ ap command_of e) s)

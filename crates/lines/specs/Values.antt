@@ -1,10 +1,12 @@
 -- What a word is worth as an argument, or why nothing.
-use Rattle.std.specs.Prelude.{ℕ, ◌+◌, ◌-◌, ◌*◌, ◌%◌, ◌^◌, Bool, true, cond, not, ◌&&◌, List, [], ◌∷◌, length, get_or, take, drop, eqb, leb, ltb, Result, Ok, Err}
+use Rattle.std.specs.Prelude.{ℕ, ◌+◌, ◌-◌, ◌*◌, ◌%◌, ◌^◌, Bool, true, cond, not, ◌&&◌, List, [], ◌∷◌, length, get_or, take, drop, eqb, leb, ltb, Option, Some, None, Result, Ok, Err}
 use Prim.Native.Char.{code}
 use Rattle.rules.specs.Listing.{bytes}
 use Rattle.promises.specs.Laws.Digits.{value_of}
 use Rattle.lines.specs.declared.Why.{Why}
 use Rattle.lines.specs.declared.Why.TheVariants.{TooFew, NotANumber, TooLarge, NotAName}
+use Rattle.rules.specs.declared.Wish.{Wish}
+use Rattle.rules.specs.declared.Wish.TheVariants.{NotWanted, Writable, Unwritable}
 use Rattle.lines.specs.Words.{same}
 use Rattle.lines.specs.Kinds.{a_count, a_flag, a_wish, a_name, a_room}
 
@@ -44,6 +46,16 @@ unfoldable pub count_in : List ℕ → Result ℕ Why
 count_in w = cond (eqb (get_or w 0 0) (code "-")) (and_then (number_in (drop 1 w)) negative) (and_then (number_in w) positive)
 
 -- ---- a flag, a wish, as a call's word has them; one more than the last is none
+abbrev pub flag_word : Option Bool → ℕ
+flag_word None = 2
+flag_word (Some b) = cond b 1 0
+
+abbrev pub wish_word : Option Wish → ℕ
+wish_word None = 3
+wish_word (Some NotWanted) = 0
+wish_word (Some Writable) = 1
+wish_word (Some Unwritable) = 2
+
 unfoldable pub flag_in : List ℕ → Result ℕ Why
 flag_in w = Ok (cond (same w (bytes "yes")) 1 (cond (same w (bytes "no")) 0 2))
 

@@ -1,7 +1,6 @@
 -- The words of a line: runs of bytes other than the space.
-use Rattle.std.specs.Prelude.{ℕ, ◌-◌, ◌≤◌, ◌≡◌, Bool, true, false, cond, not, ◌&&◌, List, [], ◌∷◌, length, take, drop, eqb}
+use Rattle.std.specs.Prelude.{ℕ, Bool, true, false, cond, not, ◌&&◌, List, [], ◌∷◌, eqb}
 use Prim.Native.Char.{code}
-use Rattle.lines.specs.declared.word.Word.{Word}
 
 -- the front of a list whose bytes all pass, and what is behind it
 unfoldable pub front : (ℕ → Bool) → List ℕ → List ℕ
@@ -28,11 +27,3 @@ same [] [] = true
 same [] (b ∷ m) = false
 same (a ∷ l) [] = false
 same (a ∷ l) (b ∷ m) = eqb a b && same l m
-
--- w is where the first word of l from `at` on stands
-pub record Cut (l : List ℕ) (at : ℕ) (w : Word) : Type 0 where
-  pub starts : at ≤ w.from
-  pub order : w.from ≤ w.to
-  pub ends : w.to ≤ length l
-  pub word : take (w.to - w.from) (drop w.from l) ≡ first_word (drop at l)
-  pub rest : drop w.to l ≡ after_word (drop at l)

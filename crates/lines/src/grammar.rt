@@ -1,80 +1,116 @@
-// The commands, by their number, and the kinds of their arguments.
-ghost use Rattle.std.specs.Prelude.{◌≡◌, ◌<◌};
-ghost use Rattle.lines.specs.Grammar.{command_count, command_of, kind_at};
+// The commands, and the kinds of their arguments.
+#![tactic(auto, unfolding(crate::specs::Grammar::name_of, crate::specs::Grammar::kinds_of, crate::specs::Grammar::grammar, crate::specs::Grammar::command, rules::specs::Listing::bytes))]
 
-use crate::word;
+ghost use Rattle.std.specs.Prelude.{◌≡◌, ◌<◌, length, map};
+ghost use Rattle.lines.specs.Kinds.{letter};
+ghost use Rattle.lines.specs.Grammar.{command_of, name_of, kinds_of, number_of, number_found};
 
-pub const COMMANDS: usize = 19;
+use crate::value::Kind::{self, Count, Flag, Name, Number, Room, Wish};
 
-// What is no call.
-pub const LIST: usize = 0;
-
-pub const SHOW: usize = 1;
-
-pub const FRESH: usize = 2;
-
-// Call 0.
-pub const FIRST_CALL: usize = 3;
-
-// The calls that are more than their words.
-pub const SPAWN: usize = FIRST_CALL + 2;
-
-pub const THREAD: usize = FIRST_CALL + 5;
-
-pub const NO_KIND: u8 = b'.';
-
-const NAMES: [u8; 122] =
-    *b" list show fresh boot start spawn system-return fork thread dispatch yield sleep wake kill wait join thread-exit exit grow";
-
-// The number of the command with this name; COMMANDS: there is none.
-pub fn find(w: &[u8]) -> usize
-    ensures { result ≡ command_of w.now }
-{
-    let mut at = 0;
-    let mut k = 0;
-    while k < COMMANDS {
-        let n = word::next(&NAMES, at);
-        let from = n.from;
-        let to = n.to;
-        if word::same(w, &NAMES[from..to]) {
-            return k;
-        }
-        at = to;
-        k += 1;
-    }
-    k
+// In the order of their numbers: first what is no call, then the calls.
+#[derive(Clone, Copy)]
+pub enum Command {
+    List,
+    Show,
+    Fresh,
+    Boot,
+    Start,
+    Spawn,
+    SystemReturn,
+    Fork,
+    Thread,
+    Dispatch,
+    Yield,
+    Sleep,
+    Wake,
+    Kill,
+    Wait,
+    Join,
+    ThreadExit,
+    Exit,
+    Grow,
 }
 
-// The letters of the arguments, and dots behind the last.
-const KINDS: [[u8; 10]; COMMANDS] = [
-    *b"o.........", // list
-    *b"..........", // show
-    *b"..........", // fresh
-    *b"..........", // boot
-    *b"..........", // start
-    *b"sn........", // spawn
-    *b"n.........", // system-return
-    *b"ny........", // fork
-    *b"nnnnnyyyy.", // thread
-    *b"n.........", // dispatch
-    *b"n.........", // yield
-    *b"nn........", // sleep
-    *b"n.........", // wake
-    *b"n.........", // kill
-    *b"nw........", // wait
-    *b"nnw.......", // join
-    *b"nn........", // thread-exit
-    *b"nn........", // exit
-    *b"ncy.......", // grow
-];
+impl Command {
+    const ALL: [Command; 19] = [
+        Command::List,
+        Command::Show,
+        Command::Fresh,
+        Command::Boot,
+        Command::Start,
+        Command::Spawn,
+        Command::SystemReturn,
+        Command::Fork,
+        Command::Thread,
+        Command::Dispatch,
+        Command::Yield,
+        Command::Sleep,
+        Command::Wake,
+        Command::Kill,
+        Command::Wait,
+        Command::Join,
+        Command::ThreadExit,
+        Command::Exit,
+        Command::Grow,
+    ];
 
-// The kind of argument i of command k; NO_KIND: it has no such argument.
-pub fn kind(k: usize, i: usize) -> u8
-    requires { k < command_count }
-    ensures { result ≡ kind_at k i }
-{
-    if i < 10 {
-        return KINDS[k][i];
+    fn name(self) -> &'static [u8]
+        ensures { result.now ≡ name_of (number_of self) }
+    {
+        match self {
+            Command::List => b"list",
+            Command::Show => b"show",
+            Command::Fresh => b"fresh",
+            Command::Boot => b"boot",
+            Command::Start => b"start",
+            Command::Spawn => b"spawn",
+            Command::SystemReturn => b"system-return",
+            Command::Fork => b"fork",
+            Command::Thread => b"thread",
+            Command::Dispatch => b"dispatch",
+            Command::Yield => b"yield",
+            Command::Sleep => b"sleep",
+            Command::Wake => b"wake",
+            Command::Kill => b"kill",
+            Command::Wait => b"wait",
+            Command::Join => b"join",
+            Command::ThreadExit => b"thread-exit",
+            Command::Exit => b"exit",
+            Command::Grow => b"grow",
+        }
     }
-    NO_KIND
+
+    // The kinds of its arguments.
+    pub fn kinds(self) -> &'static [Kind]
+        ensures are { map letter result.now ≡ kinds_of (number_of self) }
+        ensures few { length result.now < 10 }
+    {
+        match self {
+            Command::List => &[Room],
+            Command::Show | Command::Fresh | Command::Boot | Command::Start => &[],
+            Command::Spawn => &[Name, Number],
+            Command::SystemReturn | Command::Dispatch | Command::Yield => &[Number],
+            Command::Wake | Command::Kill => &[Number],
+            Command::Fork => &[Number, Flag],
+            Command::Thread => &[
+                Number, Number, Number, Number, Number, Flag, Flag, Flag, Flag,
+            ],
+            Command::Sleep | Command::ThreadExit | Command::Exit => &[Number, Number],
+            Command::Wait => &[Number, Wish],
+            Command::Join => &[Number, Number, Wish],
+            Command::Grow => &[Number, Count, Flag],
+        }
+    }
+}
+
+// The command with this name.
+pub fn find(name: &[u8]) -> Option<Command>
+    ensures { number_found result ≡ command_of name.now }
+{
+    for command in Command::ALL {
+        if name == command.name() {
+            return Some(command);
+        }
+    }
+    None
 }

@@ -1,18 +1,20 @@
 // What a line says.
 #![tactic(auto)]
 
-ghost use Rattle.std.specs.Prelude.{◌≡◌, ◌≤◌, length, drop};
+ghost use Rattle.std.specs.Prelude.{◌≡◌, ◌≤◌, length, unwrap_or};
 ghost use Rattle.lines.specs.Meaning.{word_count, means, command_means, words_of, bits, flags_together, said_by, meaning_of, NameThere};
-ghost use Rattle.lines.specs.Grammar.{first_call};
+ghost use Rattle.lines.specs.Grammar.{first_call, number_of};
 ghost use Rattle.codes.specs.Codes.{call_in};
 
 use steps::Call;
 
-mod word; // where the words of a line stand
+mod word; // the words of a line
 mod value; // what a word is worth
 mod name; // a name as its bytes
 mod grammar; // the commands
 mod arguments; // the arguments of a command
+
+use grammar::Command;
 
 // Why a line can't be read.
 #[derive(Clone, Copy)]
@@ -40,63 +42,56 @@ pub enum Said {
     Misread(Why),
 }
 
-// Four flags in a word; 16: one is no flag.
-fn bits(a: u64, b: u64, c: u64, d: u64) -> u64
-    ensures { result ≡ bits a b c d }
+// The word of a thread's flags where one is no flag: a number, since `codes` reads words.
+const NO_FLAGS: u64 = 16;
+
+// Four flags in a word; none, if one is no flag.
+#[tactic(auto, unfolding(crate::specs::Meaning::bits, codes::specs::Codes::is_flag))]
+fn bits(a: u64, b: u64, c: u64, d: u64) -> Option<u64>
+    ensures { unwrap_or result 16 ≡ bits a b c d }
 {
-    if a >= 2 {
-        return 16;
+    if a < 2 && b < 2 && c < 2 && d < 2 {
+        Some(a + 2 * b + 4 * c + 8 * d)
+    } else {
+        None
     }
-    if b >= 2 {
-        return 16;
-    }
-    if c >= 2 {
-        return 16;
-    }
-    if d >= 2 {
-        return 16;
-    }
-    a + 2 * b + 4 * c + 8 * d
 }
 
-fn flags_together(k: usize, w: &mut [u64])
+fn flags_together(command: Command, w: &mut [u64])
     requires { word_count ≤ length w.old }
-    ensures { w.new ≡ flags_together k w.old }
+    ensures { w.new ≡ flags_together (number_of command) w.old }
 {
-    if k == grammar::THREAD {
-        w[6] = bits(w[6], w[7], w[8], w[9]);
+    if let Command::Thread = command {
+        w[6] = bits(w[6], w[7], w[8], w[9]).unwrap_or(NO_FLAGS);
     }
 }
 
-fn call(k: usize, w: &mut [u64]) -> Said
-    requires { (first_call ≤ k) × (word_count ≤ length w.old) }
-    ensures { result ≡ said_by (call_in (words_of k w.old)) }
+fn call(command: Command, w: &mut [u64]) -> Said
+    requires call { first_call ≤ number_of command }
+    requires long { word_count ≤ length w.old }
+    ensures { result ≡ said_by (call_in (words_of (number_of command) w.old)) }
 {
-    flags_together(k, w);
-    w[0] = (k - grammar::FIRST_CALL) as u64;
-    match codes::first(w) {
-        None => Said::Misread(Why::NotAChoice),
-        Some(c) => Said::Call(c),
-    }
+    flags_together(command, w);
+    w[0] = command as u64 - Command::Boot as u64;
+    codes::first(w).map_or(Said::Misread(Why::NotAChoice), Said::Call)
 }
 
-// Command k, with its arguments in w and the rest of the line from `at` on.
-fn command(line: &[u8], at: usize, k: usize, w: &mut [u64], name: &mut [u8]) -> Said
-    requires { (at ≤ length line.now) × (word_count ≤ length w.old) × (length line.now ≤ length name.old) × NameThere k (drop at line.now) }
-    ensures { meaning_of name.new result ≡ command_means k (drop at line.now) w.old }
+// The command with its arguments in w, and the rest of the line behind its name.
+fn meant(command: Command, rest: &[u8], w: &mut [u64], name: &mut [u8]) -> Said
+    requires long { word_count ≤ length w.old }
+    requires fits { length rest.now ≤ length name.old }
+    requires named { NameThere (number_of command) rest.now }
+    ensures { meaning_of name.new result ≡ command_means (number_of command) rest.now w.old }
 {
-    match k {
-        grammar::SPAWN => {
-            let c = word::next(line, at);
-            let from = c.from;
-            let to = c.to;
-            let len = name::write_name(&line[from..to], name);
-            Said::Spawn(len, w[2])
+    match command {
+        Command::Spawn => {
+            let (word, _) = word::next(rest);
+            Said::Spawn(name::write_name(word, name), w[2])
         }
-        grammar::LIST => Said::List(w[1]),
-        grammar::SHOW => Said::Show,
-        grammar::FRESH => Said::Fresh,
-        _ => call(k, w),
+        Command::List => Said::List(w[1]),
+        Command::Show => Said::Show,
+        Command::Fresh => Said::Fresh,
+        _ => call(command, w),
     }
 }
 
@@ -105,22 +100,17 @@ pub fn read(line: &[u8], name: &mut [u8]) -> Said
     requires { length line.now ≤ length name.old }
     ensures { meaning_of name.new result ≡ means line.now }
 {
-    let c = word::next(line, 0);
-    let from = c.from;
-    let to = c.to;
-    if from >= to {
+    let (word, rest) = word::next(line);
+    if word.is_empty() || word[0] == b'#' {
         return Said::Nothing;
     }
-    if line[from] == b'#' {
-        return Said::Nothing;
-    }
-    let k = grammar::find(&line[from..to]);
-    if k >= grammar::COMMANDS {
+    let Some(command) = grammar::find(word) else {
         return Said::Misread(Why::UnknownWord);
-    }
-    let mut w = [0u64; arguments::WORDS];
-    match arguments::read(line, to, k, &mut w) {
-        Ok(()) => command(line, to, k, &mut w, name),
+    };
+    let mut w = [0; arguments::WORDS];
+    match arguments::read(rest, command.kinds(), &mut w) {
+        Ok(()) => meant(command, rest, &mut w, name),
+        // Not by `?`: what can't be read is said.
         Err(why) => Said::Misread(why),
     }
 }

@@ -1,10 +1,10 @@
 -- The rules' moves of one slot, as the accessors make them.
-use Rattle.std.specs.Prelude.{Some, None}
+use Rattle.std.specs.Prelude.{Some}
 use Prim.Native.Nat.{ℕ}
-use mathlib.Core.Path.{◌≡◌, refl, ap, ◌∙◌}
+use mathlib.Core.Path.{◌≡◌, ap, ◌∙◌}
 use Rattle.rules.specs.declared.Process.{Process}
 use Rattle.rules.specs.Model.{Table, slot, to_runnable, to_running}
-use Rattle.rules.specs.Moves.{change, publish, hand, idle, yield_on}
+use Rattle.rules.specs.Moves.{change, publish, hand, idle}
 use Rattle.promises.specs.Order.Chains.{on_core}
 use Rattle.words.specs.Effects.{with_hart, with_queue, enqueue}
 
@@ -18,24 +18,7 @@ module _ (t : Table) (s : ℕ) {u : Table} where
   unfolding hand change with_hart on_core
   hand-law h e = ap (on_core (with_hart h (Some (slot s)))) e
 
-pub idle-law : (t : Table) (h : ℕ) → on_core (with_hart h None) t ≡ on_core (idle h) t
-unfolding idle with_hart on_core
-idle-law t h = refl
-
--- a push finds as much room as before the slot was set, or the hart left
-pub change-queue : (t : Table) (s : ℕ) (f : Process → Process) → (on_core (change f s) t).core.queue ≡ t.core.queue
-unfolding change on_core
-change-queue t s f = refl
-
-pub idle-queue : (t : Table) (h : ℕ) → (on_core (idle h) t).core.queue ≡ t.core.queue
-unfolding idle on_core
-idle-queue t h = refl
-
 module _ (t : Table) (h s : ℕ) {u : Table} (e : u ≡ on_core (idle h) t) where
-  pub yield-law : on_core (publish s) u ≡ on_core (yield_on h s) t
-  unfolding yield_on on_core
-  yield-law = ap (on_core (publish s)) e
-
   -- the caller stops, and is what f makes of it
   pub stop-law : (f : Process → Process) {v : Table} → v ≡ on_core (change f s) u → v ≡ on_core (λ c. change f s (idle h c)) t
   unfolding on_core

@@ -11,14 +11,16 @@ use rules::{ProcState, Slot};
 use words::{Table, book, queue, slot};
 
 // The channel that those who wait for slot s sleep on.
+#[tactic(auto, unfolding(rules::specs::Sizes::slot_count))]
 pub fn own_channel(i: usize) -> u64
     requires { i < slot_count }
     ensures { result ≡ own_channel i }
 {
-    (i as u64) + 1
+    i as u64 + 1
 }
 
 // Publish: RUNNABLE, queued, appended to the tail.
+#[tactic(auto, unfolding(rules::specs::Moves::change, promises::specs::Order::Chains::on_core))]
 pub fn make_runnable(t: &mut [u64; Table::WORDS], i: usize)
     requires { (i < slot_count) × (length (table_of t.old).core.queue < slot_count) }
     ensures { table_of t.new ≡ on_core (publish i) (table_of t.old) }
@@ -39,6 +41,7 @@ pub fn run_on(t: &mut [u64; Table::WORDS], hart: usize, i: usize)
     book::set_hart(t, hart, Some(Slot(i)));
 }
 
+#[tactic(auto, unfolding(rules::specs::Moves::idle, words::specs::Effects::with_hart, promises::specs::Order::Chains::on_core))]
 pub fn idle(t: &mut [u64; Table::WORDS], hart: usize)
     requires { hart < hart_count }
     ensures { table_of t.new ≡ on_core (idle hart) (table_of t.old) }
@@ -46,6 +49,7 @@ pub fn idle(t: &mut [u64; Table::WORDS], hart: usize)
     book::set_hart(t, hart, None);
 }
 
+#[tactic(auto, unfolding(rules::specs::Moves::yield_on, rules::specs::Moves::idle, promises::specs::Order::Chains::on_core))]
 pub fn yield_on(t: &mut [u64; Table::WORDS], hart: usize, caller: usize)
     requires { (hart < hart_count) × (caller < slot_count) × (length (table_of t.old).core.queue < slot_count) }
     ensures { table_of t.new ≡ on_core (yield_on hart caller) (table_of t.old) }

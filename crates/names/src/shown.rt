@@ -10,29 +10,24 @@ pub struct Name {
     pub len: usize,
 }
 
+#[tactic(auto, unfolding(rules::specs::Listing::shown))]
 fn show(b: u8) -> u8
     ensures { result ≡ shown b }
 {
-    if 32 <= b {
-        if b <= 126 {
-            return b;
-        }
+    match b {
+        b' '..=b'~' => b,
+        _ => b'?',
     }
-    b'?'
 }
 
 pub fn shown_name(a: u64, b: u64) -> Name
     ensures { (take result.len result.bytes ≡ name_shown (bytes_of a ++ bytes_of b)) × (result.len ≤ 16) }
 {
     let mut bytes = crate::unpack(a, b);
-    let mut len = 0;
-    while len < 16 {
-        let x = bytes[len];
-        if x == 0 {
-            break;
-        }
-        bytes[len] = show(x);
-        len += 1;
+    let len = bytes.iter().position(|b| *b == 0).unwrap_or(bytes.len());
+    // `bytes.map(show)` takes ten times as long.
+    for b in &mut bytes {
+        *b = show(*b);
     }
     Name { bytes, len }
 }

@@ -42,3 +42,5 @@ module _ (q : List ℕ) (k : ℕ) where
 
   pub queue-in : {s : ℕ} → k < length q → s ≡ get_or q k 0 → Some (slot s) ≡ cond (ltb k (length q)) (Some (slot (get_or q k 0))) None
   queue-in b e = rw (lt-ltb k (length q) b, e)
+
+pub ruleset past_laws = (meta-past, kin-past, hart-past, group-past, queue-past, queue-in)

@@ -1,5 +1,5 @@
 // What a user of the table may ask without changing it. A slot, group or hart that the table does not have is as a free one.
-#![tactic(auto)]
+#![tactic(auto, using(crate::proofs::PastLaws::past_laws), unfolding(rules::specs::Sizes::slot_count, rules::specs::Sizes::group_count, rules::specs::Sizes::hart_count))]
 
 ghost use Rattle.std.specs.Prelude.{◌≡◌, cond, ◌≤◌, length, get_or, ltb, Some, None};
 ghost use Rattle.rules.specs.Sizes.{slot_count};
@@ -13,14 +13,7 @@ fn meta_of(t: &[u64; Table::WORDS], s: usize) -> ProcMeta
     ensures { result ≡ (at (table_of t.now).core s).meta }
 {
     if s >= Table::SLOTS {
-        return ProcMeta {
-            state: ProcState::UNUSED,
-            channel: 0,
-            killed: false,
-            xstate: 0,
-            pid: Pid(0),
-            queued: false,
-        };
+        return slot::FREE_META;
     }
     slot::meta_at(t, s)
 }
@@ -29,12 +22,7 @@ fn kin_of(t: &[u64; Table::WORDS], s: usize) -> Kin
     ensures { result ≡ (at (table_of t.now).core s).kin }
 {
     if s >= Table::SLOTS {
-        return Kin {
-            group: None,
-            parent: None,
-            thread: false,
-            system: false,
-        };
+        return slot::FREE_KIN;
     }
     slot::kin_at(t, s)
 }
@@ -43,61 +31,49 @@ fn kin_of(t: &[u64; Table::WORDS], s: usize) -> Kin
 pub fn state(t: &[u64; Table::WORDS], s: Slot) -> ProcState
     ensures { result ≡ (at (table_of t.now).core s.0).meta.state }
 {
-    let m = meta_of(t, s.0);
-    let state = m.state;
-    state
+    meta_of(t, s.0).state
 }
 
 pub fn channel(t: &[u64; Table::WORDS], s: Slot) -> u64
     ensures { result ≡ (at (table_of t.now).core s.0).meta.channel }
 {
-    let m = meta_of(t, s.0);
-    m.channel
+    meta_of(t, s.0).channel
 }
 
 pub fn killed(t: &[u64; Table::WORDS], s: Slot) -> bool
     ensures { result ≡ (at (table_of t.now).core s.0).meta.killed }
 {
-    let m = meta_of(t, s.0);
-    m.killed
+    meta_of(t, s.0).killed
 }
 
 pub fn pid(t: &[u64; Table::WORDS], s: Slot) -> Pid
     ensures { result ≡ (at (table_of t.now).core s.0).meta.pid }
 {
-    let m = meta_of(t, s.0);
-    let pid = m.pid;
-    pid
+    meta_of(t, s.0).pid
 }
 
 pub fn parent(t: &[u64; Table::WORDS], s: Slot) -> Option<Slot>
     ensures { result ≡ (at (table_of t.now).core s.0).kin.parent }
 {
-    let k = kin_of(t, s.0);
-    let parent = k.parent;
-    parent
+    kin_of(t, s.0).parent
 }
 
 pub fn group(t: &[u64; Table::WORDS], s: Slot) -> Option<usize>
     ensures { result ≡ (at (table_of t.now).core s.0).kin.group }
 {
-    let k = kin_of(t, s.0);
-    let group = k.group;
-    group
+    kin_of(t, s.0).group
 }
 
 pub fn is_user_thread(t: &[u64; Table::WORDS], s: Slot) -> bool
     ensures { result ≡ (at (table_of t.now).core s.0).kin.thread }
 {
-    let k = kin_of(t, s.0);
-    k.thread
+    kin_of(t, s.0).thread
 }
 
 pub fn is_system_thread(t: &[u64; Table::WORDS], s: Slot) -> bool
     ensures { result ≡ (at (table_of t.now).core s.0).kin.system }
 {
-    let k = kin_of(t, s.0);
-    k.system
+    kin_of(t, s.0).system
 }
 
 // ---- of the table
@@ -128,8 +104,7 @@ pub fn group_size(t: &[u64; Table::WORDS], g: usize) -> u64
     if g >= Table::SLOTS {
         return 0;
     }
-    let space = book::group_at(t, g);
-    space.size
+    book::group_at(t, g).size
 }
 
 pub fn queue_len(t: &[u64; Table::WORDS]) -> usize

@@ -51,3 +51,5 @@ left-more {n} {l} (suc k) {rest} h w =
 pub left-last : {n : ℕ} {l : List ℕ} {k rest : ℕ} → rest < 10 → Left n l k rest → drop k (set l k (48 + rest)) ≡ digits n
 left-last {n} {l} {k} {rest} h w =
     drop-set l k (48 + rest) (omega (arith, w.place, w.long)) ∙ ap (λ (t : List ℕ). t ++ drop (suc k) l) (sym (digits_last k rest h)) ∙ w.text
+
+pub ruleset left_steps = (left-start, left-room, left-last)

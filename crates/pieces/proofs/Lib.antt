@@ -1,2 +1,2 @@
-mod DigitLaws
+pub mod DigitLaws
 mod PieceLaws

@@ -10,6 +10,17 @@ pub struct Digits {
     pub from: usize,
 }
 
+impl Digits {
+    pub fn as_slice(&self) -> &[u8]
+        requires { self.now.from ≤ 20 }
+        ensures { result.now ≡ drop self.now.from self.now.bytes }
+    {
+        &self.bytes[self.from..]
+    }
+}
+
+// By hand: the last division says how many digits there are.
+#[tactic(auto, using(crate::proofs::DigitLaws::left_steps))]
 pub fn decimal(n: u64) -> Digits
     ensures { (drop result.from result.bytes ≡ digits n) × (result.from < 20) }
 {
@@ -17,11 +28,11 @@ pub fn decimal(n: u64) -> Digits
     let mut from = 19;
     let mut rest = n;
     while rest >= 10 {
-        bytes[from] = (48 + rest % 10) as u8;
+        bytes[from] = b'0' + (rest % 10) as u8;
         rest /= 10;
         from -= 1;
     }
-    bytes[from] = (48 + rest) as u8;
+    bytes[from] = b'0' + rest as u8;
     Digits { bytes, from }
 }
 
@@ -29,8 +40,5 @@ pub fn write(buffer: &mut [u8], at: usize, n: u64) -> usize
     requires { at + length (digits n) ≤ length buffer.old }
     ensures { Wrote buffer.old at (digits n) buffer.new result }
 {
-    let d = decimal(n);
-    let bytes = d.bytes;
-    let from = d.from;
-    buffers::write(buffer, at, &bytes[from..])
+    buffers::write(buffer, at, decimal(n).as_slice())
 }

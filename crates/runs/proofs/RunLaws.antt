@@ -19,7 +19,7 @@ use Rattle.buffers.proofs.TextLaws.{wrote_none, wrote-more, part-from}
 use Rattle.steps.specs.declared.Call.{Call}
 use Rattle.steps.specs.ByValue.{call_of}
 use Rattle.answers.specs.Words.{answer_words, coded, codes}
-use Rattle.answers.proofs.AnswerLaws.{coded-length, codes-length, codes-more}
+use Rattle.answers.proofs.AnswerLaws.{coded-length, codes-more}
 use Rattle.codes.specs.Codes.{call_words, call_numbered, call_in}
 use Rattle.runs.specs.Ran.{followed, calls_in, Ran}
 
@@ -82,66 +82,58 @@ call_long l c e = go (ltb (length l) call_words) refl e
 
 -- ---- n calls done of `most`
 module _ (text l b₀ : List ℕ) (t₀ : Table) (most : ℕ) where
-  pub record Midway (t : Table) (b : List ℕ) (n at to : ℕ) : Type 0 where
+  pub record Midway (t : Table) (b : List ℕ) (n : ℕ) : Type 0 where
     pub left : n ≤ most
     pub count : n ≡ length (calls_in n text l)
     pub table : t ≡ (rules.run t₀ (calls_in n text l)).table
-    pub answers : Wrote b₀ 0 (codes (rules.run t₀ (calls_in n text l)).answers) b to
+    pub answers : Wrote b₀ 0 (codes (rules.run t₀ (calls_in n text l)).answers) b (n * answer_words)
     pub sound : Sound t
     pub long : length b ≡ length b₀
-    pub place : at ≡ n * call_words
-    pub within : at ≤ length l
+    pub within : n * call_words ≤ length l
 
-  pub begun : Sound t₀ → Midway t₀ b₀ 0 0 0
+  pub begun : Sound t₀ → Midway t₀ b₀ 0
   unfolding calls_in codes rules.run rules.run_by
-  begun w = record { left = omega arith; count = refl; table = refl; answers = wrote_none b₀ 0 (omega arith); sound = w; long = refl; place = refl; within = omega arith }
+  begun w = record { left = omega arith; count = refl; table = refl; answers = wrote_none b₀ 0 (omega arith); sound = w; long = refl; within = omega arith }
 
-  module _ {t : Table} {b : List ℕ} {n at to : ℕ} (m : Midway t b n at to) where
+  module _ {t : Table} {b : List ℕ} {n : ℕ} (m : Midway t b n) where
     abbrev said : List Answer
     said = (rules.run t₀ (calls_in n text l)).answers
 
-    said-length : length (codes said) ≡ n * answer_words
-    said-length = codes-length said ∙ ap (λ (k : ℕ). k * answer_words) (run_length t₀ (calls_in n text l) ∙ sym m.count)
+    pub room : n < most → most * answer_words ≤ length b₀ → n * answer_words + answer_words ≤ length b
+    room h k = omega (arith, m.long)
 
-    pub room : n < most → most * answer_words ≤ length b₀ → to + answer_words ≤ length b
-    room h k = omega (arith, m.answers.place, said-length, m.long)
-
-    here : drop at l ≡ drop (n * call_words) l
-    here = ap (λ (k : ℕ). drop k l) m.place
-
-    module _ (c : Call) (e : call_in (drop at l) ≡ Some c) where
-      pub call-in : at + call_words ≤ length l
-      call-in = omega (arith, call_long (drop at l) c e, length-drop at l, m.within)
+    module _ (c : Call) (e : call_in (drop (n * call_words) l) ≡ Some c) where
+      call-in : n * call_words + call_words ≤ length l
+      call-in = omega (arith, call_long (drop (n * call_words) l) c e, length-drop (n * call_words) l, m.within)
 
       grown : calls_in (suc n) text l ≡ calls_in n text l ++ (call_of text c ∷ [])
-      grown = one_more text n l c m.count (ap call_in (sym here) ∙ e)
+      grown = one_more text n l c m.count e
 
       told : {a : Answer} {u : Table} → Did (call_of text c) t a u → (rules.run t₀ (calls_in (suc n) text l)).answers ≡ said ++ (a ∷ [])
       told did = ap (λ (cs : List rules.Call). (rules.run t₀ cs).answers) grown ∙ run-answers t₀ (calls_in n text l) (call_of text c)
           ∙ ap (λ (x : Answer). said ++ (x ∷ [])) (ap (λ (x : Table). (rules.step x (call_of text c)).answer) (sym m.table) ∙ sym did.answer)
 
-      pub next : {a : Answer} {u : Table} {d : List ℕ} → n < most → most * answer_words ≤ length b₀ → Did (call_of text c) t a u → d ≡ put b to (coded a) → length d ≡ length b
-          → Midway u d (n + 1) (at + call_words) (to + answer_words)
+      pub next : {a : Answer} {u : Table} {d : List ℕ} → n < most → most * answer_words ≤ length b₀ → Did (call_of text c) t a u → d ≡ put b (n * answer_words) (coded a)
+          → length d ≡ length b → Midway u d (n + 1)
       next {a} {u} {d} h k did f g = let z : n + 1 ≡ suc n = omega arith in rw z record {
         left = h;
         count = ap suc m.count ∙ sym (ap length grown ∙ length-append (calls_in n text l) (call_of text c ∷ []) ∙ omega arith);
         table = did.table ∙ ap (λ (x : Table). (rules.step x (call_of text c)).table) m.table ∙ sym (run-table t₀ (calls_in n text l) (call_of text c)) ∙ ap (λ (cs : List rules.Call). (rules.run t₀ cs).table) (sym grown);
-        answers = subst (λ (k : List ℕ). Wrote b₀ 0 k d (to + answer_words)) (sym (ap codes (told did) ∙ codes-more said a)) (wrote-more m.answers (record { fits = omega (arith, room h k, coded-length a); buffer = f; place = ap (λ (k : ℕ). to + k) (sym (coded-length a)) }));
+        answers = subst (λ (k : List ℕ). Wrote b₀ 0 k d (suc n * answer_words)) (sym (ap codes (told did) ∙ codes-more said a)) (wrote-more m.answers (record { fits = omega (arith, room h k, coded-length a); buffer = f; place = omega (arith, coded-length a) }));
         sound = did.sound;
         long = g ∙ m.long;
-        place = omega (arith, m.place);
-        within = call-in;
+        within = omega (arith, call-in);
       }
 
     -- why it ended there
-    pub ended : {k : ℕ} → most ≡ k → calls_in most text l ≡ calls_in n text l → Ran (calls_in k text l) t₀ b₀ n t b
+    ended : {k : ℕ} → most ≡ k → calls_in most text l ≡ calls_in n text l → Ran (calls_in k text l) t₀ b₀ n t b
     ended f e = rw (← f, e) (record { count = m.count; table = m.table; answers = m.answers.buffer; sound = m.sound })
 
-    pub none_left : call_in (drop at l) ≡ None → calls_in most text l ≡ calls_in n text l
-    none_left e = no_more text n most l m.left m.count (ap call_in (sym here) ∙ e)
+    pub none_left : {k : ℕ} → most ≡ k → call_in (drop (n * call_words) l) ≡ None → Ran (calls_in k text l) t₀ b₀ n t b
+    none_left f e = ended f (no_more text n most l m.left m.count e)
 
-    pub all_done : most ≤ n → calls_in most text l ≡ calls_in n text l
-    all_done h = let e : most ≡ n = omega (arith, m.left) in ap (λ (k : ℕ). calls_in k text l) e
+    pub all_done : {k : ℕ} → most ≡ k → most ≤ n → Ran (calls_in k text l) t₀ b₀ most t b
+    all_done {k} f h = let e : most ≡ n = omega (arith, m.left) in subst (λ (x : ℕ). Ran (calls_in k text l) t₀ b₀ x t b) (sym e) (ended f (ap (λ (j : ℕ). calls_in j text l) e))
 
 -- ---- what the code saw
 module _ (l : List ℕ) (at : ℕ) (r : Option Call) (f : r ≡ call_in (take (length l - at) (drop at l))) where

@@ -19,18 +19,13 @@ pub fn run(
     ensures { Ran (calls_within budget text.now calls.now out.old) (table_of t.old) out.old result (table_of t.new) out.new }
 {
     let most = steps::least(budget, out.len() / answers::WORDS);
-    let mut n = 0;
-    let mut at = 0;
-    let mut to = 0;
-    while n < most {
-        let Some(c) = codes::first(&calls[at..]) else {
+    // By number: with chunks of both lists the answer at their end stays open.
+    for n in 0..most {
+        let Some(c) = codes::first(&calls[n * codes::WORDS..]) else {
             return n;
         };
         let a = steps::step(t, text, c);
-        answers::write(out, to, a);
-        n += 1;
-        at += codes::WORDS;
-        to += answers::WORDS;
+        answers::write(out, n * answers::WORDS, a);
     }
-    n
+    most
 }

@@ -1,5 +1,5 @@
 // Scheduling: dispatch, yield, sleep, wake, kill.
-#![tactic(auto)]
+#![tactic(auto, using(crate::proofs::SchedLaws::refusals), unfolding(rules::specs::Sizes::hart_count, rules::specs::Sizes::slot_count, rules::specs::Sizes::first_device))]
 
 ghost use Rattle.rules.specs.Runs.{dispatch, yield, sleep, wakeup, kill};
 ghost use Rattle.promises.specs.Order.Sound.{Sound};
@@ -20,8 +20,7 @@ pub fn dequeue_runnable(t: &mut [u64; Table::WORDS], hart: usize) -> Answer
     if hart >= Table::HARTS {
         return Err(Refusal::NoSuchHart);
     }
-    let p = book::hart_at(t, hart);
-    if let Some(_) = p {
+    if book::hart_at(t, hart).is_some() {
         return Err(Refusal::HartBusy);
     }
     if queue::waiting(t) == 0 {
@@ -36,31 +35,21 @@ pub fn yielding(t: &mut [u64; Table::WORDS], hart: usize) -> Answer
     requires { Sound (table_of t.old) }
     ensures { Did (yield hart) (table_of t.old) result (table_of t.new) }
 {
-    let c = taking::caller_on(t, hart);
-    match c {
-        Err(n) => Err(n),
-        Ok(caller) => {
-            moves::yield_on(t, hart, caller);
-            Ok(Grant::Done)
-        }
-    }
+    let caller = taking::caller_on(t, hart)?;
+    moves::yield_on(t, hart, caller);
+    Ok(Grant::Done)
 }
 
 pub fn sleep(t: &mut [u64; Table::WORDS], hart: usize, channel: u64) -> Answer
     requires { Sound (table_of t.old) }
     ensures { Did (sleep hart channel) (table_of t.old) result (table_of t.new) }
 {
-    let c = taking::caller_on(t, hart);
-    match c {
-        Err(n) => Err(n),
-        Ok(caller) => {
-            if channel < FIRST_DEVICE {
-                return Err(Refusal::NotADevice);
-            }
-            moves::sleep_on(t, hart, caller, channel);
-            Ok(Grant::Done)
-        }
+    let caller = taking::caller_on(t, hart)?;
+    if channel < FIRST_DEVICE {
+        return Err(Refusal::NotADevice);
     }
+    moves::sleep_on(t, hart, caller, channel);
+    Ok(Grant::Done)
 }
 
 pub fn wake_up(t: &mut [u64; Table::WORDS], channel: u64) -> Answer
@@ -78,12 +67,7 @@ pub fn kill(t: &mut [u64; Table::WORDS], pid: Pid) -> Answer
     requires { Sound (table_of t.old) }
     ensures { Did (kill pid) (table_of t.old) result (table_of t.new) }
 {
-    let f = scans::with_pid(t, pid);
-    match f {
-        None => Err(Refusal::NoneSuch),
-        Some(i) => {
-            wakes::slay(t, i);
-            Ok(Grant::Done)
-        }
-    }
+    let i = scans::with_pid(t, pid).ok_or(Refusal::NoneSuch)?;
+    wakes::slay(t, i);
+    Ok(Grant::Done)
 }

@@ -1,5 +1,5 @@
 -- A session in lent buffers, step by step.
-use Rattle.std.proofs.Common.{◌≡◌, ℕ, ◌+◌, ◌-◌, ◌%◌, ◌^◌, ◌<◌, ◌≤◌, Bool, true, false, cond, eqb, List, [], ◌∷◌, ◌++◌, length, get_or, take, drop, set, sym, refl, ap, ◌∙◌, subst, add-one, arith, length-append, length-take-le, take-suc, drop-drop, take-suc-set, take_at, drop_at, le-ltb, lt-ltb, eq-eqb, ne_eqb}
+use Rattle.std.proofs.Common.{◌≡◌, ℕ, ◌+◌, ◌-◌, ◌%◌, ◌^◌, ◌<◌, ◌≤◌, Bool, true, false, cond, eqb, List, [], ◌∷◌, ◌++◌, length, get_or, take, drop, set, sym, refl, ap, ◌∙◌, add-one, arith, length-append, length-take-le, take-suc, drop-drop, take-suc-set, take_at, drop_at, le-ltb, lt-ltb, eq-eqb, ne_eqb}
 use Rattle.rules.specs.Sizes.{slot_count, hart_count, name_size}
 use Rattle.rules.specs.Model.{Table}
 use Rattle.promises.specs.Order.Sound.{Sound}
@@ -12,7 +12,7 @@ use Rattle.desk.specs.Desk.{misread_text, table_after, text_for, misread_top, de
 use Rattle.session.specs.declared.talk.Place.{Place}
 use Rattle.session.specs.Talk.{Seat, longest_line, newline, line_means, ended, kept, lengthened, heard, hears, closed}
 use Rattle.session.specs.WholeLines.{in_pieces}
-use Rattle.session.specs.Places.{line_room, seat_of, Ready, Seated, HeardPart}
+use Rattle.session.specs.Places.{line_room, seat_of, Ready, Seated}
 
 -- the front of the buffer, with the text behind it
 wrote-front : {b p a : List ℕ} {k m : ℕ} → Wrote b k p a m → take m a ≡ take k b ++ p
@@ -72,12 +72,12 @@ module _ (line : List ℕ) (len : ℕ) (e : length line ≡ line_room) where
 
 -- ---- one byte, and the end
 module _ (t line out : List ℕ) (p : Place) where
-  pub line-ended : {u d : List ℕ} {k n end : ℕ} → p.at + desk_top ≤ length out → k ≡ 0 → n ≡ (p.number + 1) % 2 ^ 64
-      → Answered (table_of t) n (line_means (take p.len line)) (table_of u) out p.at d end
-      → Seated (ended (seat_of t line out p)) out u line d (record { len = k; number = n; at = end })
+  pub line-ended : {u d : List ℕ} {end : ℕ} → p.at + desk_top ≤ length out
+      → Answered (table_of t) ((p.number + 1) % 2 ^ 64) (line_means (take p.len line)) (table_of u) out p.at d end
+      → Seated (ended (seat_of t line out p)) out u line d (record { len = 0; number = (p.number + 1) % 2 ^ 64; at = end })
   unfolding ended
-  line-ended h z e a = record {
-    seat = seat-by a.table (ap (λ (k : ℕ). take k line) z) e (wrote-front a.text ∙ ap (λ (k : ℕ). take p.at out ++ text_for (table_of t) k (line_means (take p.len line))) e);
+  line-ended h a = record {
+    seat = seat-by a.table refl refl (wrote-front a.text);
     sound = a.sound;
     len = omega arith;
     at = omega (arith, a.within, wrote-long a.text);
@@ -103,61 +103,31 @@ module _ (t line out : List ℕ) (p : Place) where
   closed-line f g e h = rw (ne_eqb (length (take p.len line)) 0 (λ z. e (omega (arith, length-take-le p.len line (omega arith))))) h
 
 -- ---- the first bytes of a piece
-module _ (s : Seat) (piece line₀ name₀ out₀ : List ℕ) where
-  pub record Midway (t line name out : List ℕ) (len number at used : ℕ) : Type 0 where
-    pub holds : Seated (hears s (take used piece)) out₀ t line out (record { len = len; number = number; at = at })
-    pub within : used ≤ length piece
-    pub line_same : length line ≡ length line₀
-    pub name-same : length name ≡ length name₀
-    pub out-same : length out ≡ length out₀
+pub none-heard : {t line name out : List ℕ} {p : Place} (piece : List ℕ) → Ready t line name out p → Seated (hears (seat_of t line out p) (take 0 piece)) out t line out p
+unfolding hears
+none-heard piece r = record { seat = refl; sound = r.sound; len = r.len; at = omega (arith, r.for_answer); rest = refl }
 
-  one_more : (n : ℕ) → n < length piece → heard (hears s (take n piece)) (get_or piece n 0) ≡ hears s (take (n + 1) piece)
+module _ (s : Seat) (piece : List ℕ) (n : ℕ) {was t line out : List ℕ} {p : Place} (m : Seated (hears s (take n piece)) was t line out p) where
+  one_more : n < length piece → heard (hears s (take n piece)) (get_or piece n 0) ≡ hears s (take (n + 1) piece)
   unfolding hears
-  one_more n h = rw (add-one, take-suc piece n 0 h) (sym (in_pieces s (take n piece) (get_or piece n 0 ∷ [])))
+  one_more h = rw (add-one, take-suc piece n 0 h) (sym (in_pieces s (take n piece) (get_or piece n 0 ∷ [])))
 
-  pub none-heard : {t : List ℕ} {p : Place} → s ≡ seat_of t line₀ out₀ p → Ready t line₀ name₀ out₀ p → (n : ℕ) → n ≡ 0
-      → Midway t line₀ name₀ out₀ p.len p.number p.at n
-  unfolding hears
-  none-heard e r n z = rw z record {
-    holds = record { seat = sym e; sound = r.sound; len = r.len; at = omega (arith, r.for_answer); rest = refl };
-    within = omega arith;
-    line_same = refl;
-    name-same = refl;
-    out-same = refl;
-  }
-
-  module _ {t line name out : List ℕ} {len number at used : ℕ} (m : Midway t line name out len number at used) where
-    pub ready : length line₀ ≡ line_room → line_room ≤ length name₀ → at + desk_top ≤ length out → Ready t line name out (record { len = len; number = number; at = at })
-    ready f g h = record { sound = m.holds.sound; for_line = m.line_same ∙ f; for_name = omega (arith, m.name-same); len = m.holds.len; for_answer = h }
-
-    onward : {u line' d : List ℕ} {q : Place}
-        → Seated (heard (seat_of t line out (record { len = len; number = number; at = at })) (get_or piece used 0)) out u line' d q → at ≤ q.at
-    onward {d = d} {q} v =
+  module _ {u line' d : List ℕ} {q : Place} (v : Seated (heard (seat_of t line out p) (get_or piece n 0)) out u line' d q) where
+    onward : p.at ≤ q.at
+    onward =
         omega (
           arith,
-          heard-longer (seat_of t line out (record { len = len; number = number; at = at })) (get_or piece used 0),
+          heard-longer (seat_of t line out p) (get_or piece n 0),
           ap (λ (x : Seat). length x.said) v.seat,
           length-take-le q.at d v.at,
-          length-take-le at out m.holds.at,
+          length-take-le p.at out m.at,
         )
 
-    pub next : {u line' name' d : List ℕ} {q : Place} → used < length piece
-        → Seated (heard (seat_of t line out (record { len = len; number = number; at = at })) (get_or piece used 0)) out u line' d q
-        → length line' ≡ length line → length name' ≡ length name → length d ≡ length out
-        → Midway u line' name' d q.len q.number q.at (used + 1)
-    next {u} {line'} {d = d} {q} h v a b c = record {
-      holds = subst (λ (x : Seat). Seated x out₀ u line' d q) (ap (λ (x : Seat). heard x (get_or piece used 0)) m.holds.seat ∙ one_more used h) (record {
-        seat = v.seat;
-        sound = v.sound;
-        len = v.len;
-        at = v.at;
-        rest = v.rest ∙ further out out₀ at q.at (onward v) m.holds.rest;
-      });
-      within = omega arith;
-      line_same = a ∙ m.line_same;
-      name-same = b ∙ m.name-same;
-      out-same = c ∙ m.out-same;
+    pub next : n < length piece → Seated (hears s (take (n + 1) piece)) was u line' d q
+    next h = record {
+      seat = v.seat ∙ ap (λ (x : Seat). heard x (get_or piece n 0)) m.seat ∙ one_more h;
+      sound = v.sound;
+      len = v.len;
+      at = v.at;
+      rest = v.rest ∙ further out was p.at q.at onward m.rest;
     }
-
-    pub took : (at + desk_top ≤ length out → length piece ≤ used) → HeardPart s out₀ piece t line out (record { place = record { len = len; number = number; at = at }; used = used })
-    took f = record { holds = m.holds; used = m.within; all = λ h. omega (arith, f h, m.within) }

@@ -5,13 +5,6 @@ use Rattle.session.specs.declared.talk.Place.{Place}
 use Rattle.session.specs.Talk.{Seat, hears}
 use Rattle.session.specs.Places.{seat_of, Ready}
 use Rattle.session.specs.Rounds.{written}
-use Rattle.session.specs.declared.Turn.{Turn}
-use Rattle.session.specs.declared.Turn.TheVariants.{Goes, Ends}
-
--- where a session stands after it
-abbrev pub place_of : Turn → Place
-place_of (Goes p) = p
-place_of (Ends p) = p
 
 -- how much waits, once it was written if another answer might not fit behind it
 unfoldable pub after_room : ℕ → ℕ → ℕ

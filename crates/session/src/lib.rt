@@ -4,7 +4,7 @@
 ghost use Rattle.std.specs.Prelude.{◌≡◌, ◌+◌, ◌≤◌, length};
 ghost use Rattle.desk.specs.Desk.{desk_top};
 ghost use Rattle.session.specs.Places.{seat_of, Ready};
-ghost use Rattle.session.specs.Turns.{place_of, after_room, Heard, HeardSome};
+ghost use Rattle.session.specs.Turns.{after_room, Heard, HeardSome};
 
 use std::io::{Read, Write};
 use talk::Place;
@@ -18,28 +18,16 @@ const ROOM: usize = 2 * desk::TOP;
 // How much is read at once.
 const PIECE: usize = 4096;
 
-#[derive(Clone, Copy)]
-enum Turn {
-    Goes(Place),
-    Ends(Place),
-}
-
 // How many bytes came: none once the input has ended or can't be read.
 fn read<R: Read>(input: &mut R, chunk: &mut [u8]) -> usize
     ensures { result ≤ length chunk.new }
 {
-    match input.read(chunk) {
-        Ok(n) => n,
-        Err(_) => 0,
-    }
+    input.read(chunk).unwrap_or(0)
 }
 
 // What can't be written is passed over.
 fn write_all<W: Write>(output: &mut W, said: &[u8]) {
-    match output.write_all(said) {
-        Ok(()) => {}
-        Err(_) => {}
-    }
+    let _ = output.write_all(said);
 }
 
 // Writes what waits, if the next answer might not fit behind it.
@@ -67,50 +55,19 @@ fn take_all<W: Write>(
     requires { Ready t.old line.old name.old out.old p }
     ensures { Heard (seat_of t.old line.old out.old p) chunk.now t.new line.new name.new out.new result }
 {
-    let mut len = p.len;
-    let mut number = p.number;
-    let mut at = p.at;
+    let mut p = p;
     let mut done = 0;
+    // Not by `for`: how far a turn goes is what `take` answers.
     while done < chunk.len() {
-        let e = talk::take(
-            t,
-            &chunk[done..],
-            line,
-            name,
-            out,
-            Place { len, number, at },
-        );
-        let q = e.place;
-        len = q.len;
-        number = q.number;
-        at = make_room(output, out, q.at);
+        let e = talk::take(t, &chunk[done..], line, name, out, p);
+        p = e.place;
+        p.at = make_room(output, out, p.at);
         done += e.used;
     }
-    Place { len, number, at }
+    p
 }
 
-// Reads once.
-fn listen<R: Read, W: Write>(
-    input: &mut R,
-    output: &mut W,
-    t: &mut [u64; Table::WORDS],
-    line: &mut [u8],
-    name: &mut [u8],
-    out: &mut [u8],
-    p: Place,
-) -> Turn
-    requires { Ready t.old line.old name.old out.old p }
-    ensures { HeardSome (seat_of t.old line.old out.old p) t.new line.new name.new out.new (place_of result) }
-{
-    let mut chunk = [0u8; PIECE];
-    let n = read(input, &mut chunk);
-    if n == 0 {
-        return Turn::Ends(p);
-    }
-    Turn::Goes(take_all(output, t, &chunk[..n], line, name, out, p))
-}
-
-// A proved loop has to end, and nothing says that an input does: it counts its turns, from a number that no run uses up.
+// A proved loop has to end, and nothing says that an input does: it counts its turns, to a number that no run reaches.
 fn hear<R: Read, W: Write>(
     input: &mut R,
     output: &mut W,
@@ -123,35 +80,32 @@ fn hear<R: Read, W: Write>(
     requires { Ready t.old line.old name.old out.old p }
     ensures { HeardSome (seat_of t.old line.old out.old p) t.new line.new name.new out.new result }
 {
-    let mut len = p.len;
-    let mut number = p.number;
-    let mut at = p.at;
-    let mut turns = u64::MAX;
-    while turns > 0 {
-        match listen(input, output, t, line, name, out, Place { len, number, at }) {
-            Turn::Goes(q) => {
-                len = q.len;
-                number = q.number;
-                at = q.at;
-            }
-            Turn::Ends(q) => {
-                return q;
-            }
+    let mut p = p;
+    let mut chunk = [0u8; PIECE];
+    for _ in 0..u64::MAX {
+        let n = read(input, &mut chunk);
+        if n == 0 {
+            return p;
         }
-        turns -= 1;
+        p = take_all(output, t, &chunk[..n], line, name, out, p);
     }
-    Place { len, number, at }
+    p
 }
 
 pub fn run<R: Read, W: Write>(input: &mut R, output: &mut W) {
-    let new = Table::new();
-    let mut t = new.words;
+    let mut t = Table::new().words;
     let mut line = [0u8; talk::LINE];
     let mut name = [0u8; talk::LINE];
     let mut out = [0u8; ROOM];
-    let start = talk::start();
-    let p = hear(input, output, &mut t, &mut line, &mut name, &mut out, start);
+    let p = hear(
+        input,
+        output,
+        &mut t,
+        &mut line,
+        &mut name,
+        &mut out,
+        talk::start(),
+    );
     let e = talk::close(&mut t, &line, &mut name, &mut out, p);
-    let at = e.at;
-    write_all(output, &out[..at]);
+    write_all(output, &out[..e.at]);
 }

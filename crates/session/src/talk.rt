@@ -38,11 +38,12 @@ fn push(line: &mut [u8], len: usize, b: u8) -> usize
     requires { (length line.old ≡ line_room) × (len ≤ line_room) }
     ensures { (take result line.new ≡ kept (take len line.old) b) × (result ≤ line_room) }
 {
-    if len >= LINE {
-        return len;
+    if len < LINE {
+        line[len] = b;
+        len + 1
+    } else {
+        len
     }
-    line[len] = b;
-    len + 1
 }
 
 fn end_line(
@@ -55,13 +56,12 @@ fn end_line(
     requires { Ready t.old line.now name.old out.old p }
     ensures { Seated (ended (seat_of t.old line.now out.old p)) out.old t.new line.now out.new result }
 {
-    let number = std::num::wrapping_add_u64(p.number, 1);
-    let len = p.len;
-    if len >= LINE {
-        let at = desk::write_misread(out, p.at, number, Why::TooLong);
-        return Place { len: 0, number, at };
-    }
-    let at = desk::answer(t, &line[..len], number, name, out, p.at);
+    let number = p.number.wrapping_add(1);
+    let at = if p.len < LINE {
+        desk::answer(t, &line[..p.len], number, name, out, p.at)
+    } else {
+        desk::write_misread(out, p.at, number, Why::TooLong)
+    };
     Place { len: 0, number, at }
 }
 
@@ -79,11 +79,9 @@ fn feed(
     if b == b'\n' {
         return end_line(t, line, name, out, p);
     }
-    let len = push(line, p.len, b);
     Place {
-        len,
-        number: p.number,
-        at: p.at,
+        len: push(line, p.len, b),
+        ..p
     }
 }
 
@@ -100,26 +98,16 @@ pub fn take(
     ensures { HeardPart (seat_of t.old line.old out.old p) out.old chunk.now t.new line.new out.new result }
 {
     let last = out.len() - desk::TOP;
-    let mut len = p.len;
-    let mut number = p.number;
-    let mut at = p.at;
-    let mut used = 0;
-    while used < chunk.len() {
-        if at > last {
-            return Taken {
-                place: Place { len, number, at },
-                used,
-            };
+    let mut p = p;
+    for (i, &b) in chunk.iter().enumerate() {
+        if p.at > last {
+            return Taken { place: p, used: i };
         }
-        let e = feed(t, chunk[used], line, name, out, Place { len, number, at });
-        len = e.len;
-        number = e.number;
-        at = e.at;
-        used += 1;
+        p = feed(t, b, line, name, out, p);
     }
     Taken {
-        place: Place { len, number, at },
-        used,
+        place: p,
+        used: chunk.len(),
     }
 }
 

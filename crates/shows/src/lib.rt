@@ -42,8 +42,7 @@ fn write_slot(t: &[u64; Table::WORDS], out: &mut [u8], at: usize, s: usize) -> u
     ensures { Wrote out.old at (slot_text (table_of t.now) s) out.new result × (result ≤ at + slot_top) }
 {
     let m = slot::meta_at(t, s);
-    let state = m.state;
-    if let ProcState::UNUSED = state {
+    if let ProcState::UNUSED = m.state {
         return at;
     }
     let a = pieces::write_field(out, at, b"slot ", s as u64);

@@ -24,13 +24,11 @@ pub fn write_meta(out: &mut [u8], at: usize, m: ProcMeta) -> usize
     requires { at + meta_top ≤ length out.old }
     ensures { Wrote out.old at (meta_text m) out.new result × (result ≤ at + meta_top) }
 {
-    let state = m.state;
-    let pid = m.pid;
-    let a = write_state(out, at, state);
+    let a = write_state(out, at, m.state);
     let b = pieces::write_field(out, a, b" channel ", m.channel);
     let c = pieces::write_flag(out, b, b" killed ", m.killed);
     let d = pieces::write_field(out, c, b" status ", m.xstate);
-    let e = pieces::write_field(out, d, b" pid ", pid.0);
+    let e = pieces::write_field(out, d, b" pid ", m.pid.0);
     pieces::write_flag(out, e, b" queued ", m.queued)
 }
 
@@ -41,9 +39,8 @@ fn write_group(t: &[u64; Table::WORDS], out: &mut [u8], at: usize, g: Option<usi
     match g {
         None => buffers::write(out, at, b" group - size 0"),
         Some(n) => {
-            let group = book::group_at(t, n);
             let on = pieces::write_field(out, at, b" group ", n as u64);
-            pieces::write_field(out, on, b" size ", group.size)
+            pieces::write_field(out, on, b" size ", book::group_at(t, n).size)
         }
     }
 }
@@ -53,21 +50,17 @@ pub fn write_kin(t: &[u64; Table::WORDS], out: &mut [u8], to: usize, s: usize) -
     ensures { Wrote out.old to (kin_text (table_of t.now).books (at (table_of t.now).core s).kin) out.new result × (result ≤ to + kin_top) }
 {
     let k = slot::kin_at(t, s);
-    let parent = k.parent;
-    let group = k.group;
-    let a = pieces::write_place(out, to, b" parent ", parent);
+    let a = pieces::write_place(out, to, b" parent ", k.parent);
     let b = pieces::write_flag(out, a, b" thread ", k.thread);
     let c = pieces::write_flag(out, b, b" system ", k.system);
-    write_group(t, out, c, group)
+    write_group(t, out, c, k.group)
 }
 
+#[tactic(auto, unfolding(rules::specs::Sizes::page_size, rules::specs::Sizes::trampoline, rules::specs::Sizes::trapframe))]
 fn trapframe_at(below: u64) -> u64
     ensures { result ≡ trapframe - below }
 {
-    if below > stacks::TRAPFRAME {
-        return 0;
-    }
-    stacks::TRAPFRAME - below
+    stacks::TRAPFRAME.saturating_sub(below)
 }
 
 fn write_record(out: &mut [u8], at: usize, w: StartWords) -> usize

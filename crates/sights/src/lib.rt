@@ -12,9 +12,10 @@ use words::Table;
 
 pub mod slot; // a slot in ten words
 
-// The first word of an answer that is a text's length.
+// The first word of an answer that is a text's length: a number, since C reads it.
 const LISTED: u64 = 7;
 
+#[tactic(auto, using(crate::proofs::SightLaws::three_words))]
 pub fn words_of(a: Answer) -> [u64; answers::WORDS]
     ensures { result ≡ coded a }
 {
@@ -23,6 +24,7 @@ pub fn words_of(a: Answer) -> [u64; answers::WORDS]
     w
 }
 
+#[tactic(auto, unfolding(crate::specs::Sights::room_words))]
 pub fn room_words(room: Result<usize, Refusal>) -> [u64; answers::WORDS]
     ensures { result ≡ room_words room }
 {
@@ -32,6 +34,7 @@ pub fn room_words(room: Result<usize, Refusal>) -> [u64; answers::WORDS]
     }
 }
 
+#[tactic(auto, unfolding(crate::specs::Sights::show_room, crate::specs::Sights::show_buffer, rules::specs::Sizes::slot_count, rules::specs::Sizes::hart_count, rules::specs::Sizes::name_size))]
 pub fn show_into(t: &[u64; Table::WORDS], buffer: &mut [u8]) -> Result<usize, Refusal>
     requires { Sound (table_of t.now) }
     ensures answer { result ≡ show_room (table_of t.now) (length buffer.old) }

@@ -35,19 +35,16 @@ pub enum Call {
 pub fn least(a: usize, b: usize) -> usize
     ensures { (result ≡ least a b) × (result ≤ b) }
 {
-    if a < b {
-        return a;
-    }
-    b
+    a.min(b)
 }
 
+#[tactic(auto, using(std::proofs::lemmas::List::take_min, std::proofs::lemmas::List::drop_min))]
 fn spawn(t: &mut [u64; Table::WORDS], text: &[u8], start: usize, len: usize, entry: u64) -> Answer
     requires { Sound (table_of t.old) }
     ensures { Did (spawn (piece_of text.now start len) entry) (table_of t.old) result (table_of t.new) }
 {
-    let from = least(start, text.len());
-    let end = from + least(len, text.len() - from);
-    births::spawn_system_thread(t, &text[from..end], entry)
+    let rest = &text[start.min(text.len())..];
+    births::spawn_system_thread(t, &rest[..len.min(rest.len())], entry)
 }
 
 pub fn step(t: &mut [u64; Table::WORDS], text: &[u8], c: Call) -> Answer

@@ -1,5 +1,5 @@
 -- What the parts of a call tell its proof: who the caller is, what was taken; and the heads of the rules' calls, by what the parts answer.
-use Rattle.std.specs.Prelude.{Some, None, Ok, Err, Option}
+use Rattle.std.specs.Prelude.{Some, None, Ok, Err, Option, ok_or, IsErr, IsErrAnd}
 use Rattle.rules.specs.declared.Slot.{Slot}
 use Prim.Native.Nat.{ℕ, ◌<◌}
 use native.Mathlib.Omega.{arith}
@@ -23,7 +23,7 @@ use Rattle.promises.specs.Order.States.{other}
 use Rattle.promises.specs.Order.Room.{room_by}
 use Rattle.promises.specs.Order.Chains.{on_core}
 use Rattle.promises.specs.Did.{Makes}
-use Rattle.taking.specs.Parts.{runs_on, caller_of, or_full, taken_of, after_take, or_refused}
+use Rattle.taking.specs.Parts.{runs_on, caller_of, taken_of, after_take, or_refused}
 
 -- who the caller is
 pub caller_runs : (c : Core) (h s : ℕ) → Ok s ≡ caller_of c h → hart_at c h ≡ Some (slot s)
@@ -45,7 +45,7 @@ pub taken-slot : (t u : Table) (s : ℕ) → Ok s ≡ taken_of t → u ≡ after
 unfolding taken_of after_take
 taken-slot t u s e f = go (leb pid_top t.books.pids) refl (lowest (is UNUSED) t.core.slots) refl e f
   where
-    go : (b : Bool) → leb pid_top t.books.pids ≡ b → (o : Option ℕ) → lowest (is UNUSED) t.core.slots ≡ o → Ok s ≡ cond b (Err PidsSpent) (or_full o) → u ≡ cond b t (spent t) → Took t u s
+    go : (b : Bool) → leb pid_top t.books.pids ≡ b → (o : Option ℕ) → lowest (is UNUSED) t.core.slots ≡ o → Ok s ≡ cond b (Err PidsSpent) (ok_or o TableFull) → u ≡ cond b t (spent t) → Took t u s
     go true p o q e f = let z : ◌≡◌ {A = ℕ} 0 1 = cc in absurd (omega arith)
     go false p None q e f = let z : ◌≡◌ {A = ℕ} 0 1 = cc in absurd (omega arith)
     go false p (Some i) q e f = let z : s ≡ i = cc in
@@ -138,7 +138,7 @@ module _ (t : Table) (k : ℕ → Table → Outcome) where
   on-taking = go (leb pid_top t.books.pids) (lowest (is UNUSED) t.core.slots)
     where
       go : (b : Bool) (o : Option ℕ) → cond b (refuse PidsSpent t) (found TableFull (spent t) o (λ s. k s (spent t)))
-          ≡ or_refused (cond b t (spent t)) (cond b (Err PidsSpent) (or_full o)) (λ s. k s (spent t))
+          ≡ or_refused (cond b t (spent t)) (cond b (Err PidsSpent) (ok_or o TableFull)) (λ s. k s (spent t))
       go true o = refl
       go false None = refl
       go false (Some s) = refl
@@ -151,3 +151,12 @@ module _ (t : Table) (k : ℕ → Table → Outcome) where
   pub take-is : {s : ℕ} {a : Answer} {v u : Table} → Ok s ≡ taken_of t → v ≡ after_take t → Makes (k s v) a u → Makes (taking t k) a u
   unfolding or_refused
   take-is {s} {a} {v} {u} e f m = along on-taking (rw (← e) (subst (λ (w : Table). Makes (k s w) a u) (taken-slot t v s e f).table m))
+
+-- ---- a `?` that leaves a call: on a call's refusal, which is the answer itself, and on `ok_or`
+pub exit-refused : {r : Answer} {n : Refusal} {o : Outcome} {u : Table} → IsErr r × IsErrAnd r (λ m. m ≡ n) → Makes o (Err n) u → Makes o r u
+exit-refused {r = Ok x} e m = absurd e.1
+exit-refused {r = Err n} e m = rw e.1 m
+
+pub exit-none : {o : Outcome} (x : Option ℕ) {n r : Refusal} {a : Answer} {u : Table} → IsErr a × IsErrAnd a (λ y. y ≡ n) → Err n ≡ ok_or x r → Makes o (Err r) u → Makes o a u
+exit-none None {n} {r} e q m = let z : n ≡ r = cc in exit-refused e (rw z m)
+exit-none (Some i) e q m = absurd (cc)

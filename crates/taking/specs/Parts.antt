@@ -1,5 +1,5 @@
 -- What the parts of the calls answer, as the rules have it.
-use Rattle.std.specs.Prelude.{ℕ, ◌<◌, cond, leb, Option, Some, None, Result, Ok, Err}
+use Rattle.std.specs.Prelude.{ℕ, ◌<◌, cond, leb, Option, Some, None, Result, Ok, Err, IfOk, ok_or}
 use Rattle.rules.specs.declared.Slot.{Slot}
 use Rattle.rules.specs.declared.Refusal.{Refusal}
 use Rattle.rules.specs.declared.ProcState.TheVariants.{UNUSED}
@@ -22,23 +22,17 @@ unfoldable pub caller_of : Core → ℕ → Result ℕ Refusal
 caller_of c h = cond (leb hart_count h) (Err NoSuchHart) (runs_on (hart_at c h))
 
 abbrev pub InHart : ℕ → Result ℕ Refusal → Type 0
-InHart h (Err r) = Unit {0}
-InHart h (Ok s) = (s < slot_count) × (h < hart_count)
+InHart h r = IfOk r (λ s. (s < slot_count) × (h < hart_count))
 
 -- a slot taken, and the table then
-abbrev pub or_full : Option ℕ → Result ℕ Refusal
-or_full None = Err TableFull
-or_full (Some s) = Ok s
-
 unfoldable pub taken_of : Table → Result ℕ Refusal
-taken_of t = cond (leb pid_top t.books.pids) (Err PidsSpent) (or_full (lowest (is UNUSED) t.core.slots))
+taken_of t = cond (leb pid_top t.books.pids) (Err PidsSpent) (ok_or (lowest (is UNUSED) t.core.slots) TableFull)
 
 unfoldable pub after_take : Table → Table
 after_take t = cond (leb pid_top t.books.pids) t (spent t)
 
 abbrev pub InSlots : Result ℕ Refusal → Type 0
-InSlots (Err r) = Unit {0}
-InSlots (Ok s) = s < slot_count
+InSlots r = IfOk r (λ s. s < slot_count)
 
 -- what a call goes on with
 unfoldable pub or_refused : Table → Result ℕ Refusal → (ℕ → Outcome) → Outcome

@@ -1,55 +1,35 @@
 // An answer without the end of its line.
 ghost use Rattle.std.specs.Prelude.{◌≡◌, ◌+◌, ◌≤◌, length, Ok};
 ghost use Rattle.buffers.specs.Text.{Wrote};
-ghost use Rattle.texts.specs.Rows.{up_to_dot};
 ghost use Rattle.texts.specs.Texts.{refusal_words, said_of, refusal_top, said_top};
 
 use rules::{Answer, Grant, Refusal};
 
-// The words of each refusal, by its number, and dots behind them.
-const WORDS: [[u8; 18]; 18] = [
-    *b"no such hart......",
-    *b"hart idle.........",
-    *b"hart busy.........",
-    *b"queue empty.......",
-    *b"table full........",
-    *b"pids spent........",
-    *b"no group..........",
-    *b"bad address.......",
-    *b"unmapped..........",
-    *b"none such.........",
-    *b"status unwritable.",
-    *b"init out of turn..",
-    *b"wrong way out.....",
-    *b"not a device......",
-    *b"name too long.....",
-    *b"no room...........",
-    *b"size out of limits",
-    *b"no memory.........",
-];
-
-// How many bytes stand before the first dot.
-fn words_len(row: &[u8]) -> usize
-    ensures { (result ≡ length (up_to_dot row.now)) × (result ≤ length row.now) }
+#[tactic(auto, unfolding(crate::specs::Texts::refusal_words, rules::specs::Listing::bytes))]
+fn words_of(r: Refusal) -> &'static [u8]
+    ensures words { result.now ≡ refusal_words r }
+    ensures short { length result.now ≤ refusal_top }
 {
-    let mut j = 0;
-    while j < row.len() {
-        if row[j] == b'.' {
-            return j;
-        }
-        j += 1;
+    match r {
+        Refusal::NoSuchHart => b"no such hart",
+        Refusal::HartIdle => b"hart idle",
+        Refusal::HartBusy => b"hart busy",
+        Refusal::QueueEmpty => b"queue empty",
+        Refusal::TableFull => b"table full",
+        Refusal::PidsSpent => b"pids spent",
+        Refusal::NoGroup => b"no group",
+        Refusal::BadAddress => b"bad address",
+        Refusal::Unmapped => b"unmapped",
+        Refusal::NoneSuch => b"none such",
+        Refusal::StatusUnwritable => b"status unwritable",
+        Refusal::InitOutOfTurn => b"init out of turn",
+        Refusal::WrongWayOut => b"wrong way out",
+        Refusal::NotADevice => b"not a device",
+        Refusal::NameTooLong => b"name too long",
+        Refusal::NoRoom => b"no room",
+        Refusal::SizeOutOfLimits => b"size out of limits",
+        Refusal::NoMemory => b"no memory",
     }
-    j
-}
-
-fn write_refusal(out: &mut [u8], at: usize, r: Refusal) -> usize
-    requires { at + refusal_top ≤ length out.old }
-    ensures { Wrote out.old at (refusal_words r) out.new result × (result ≤ at + refusal_top) }
-{
-    let i = (answers::number_of(r) - 1) as usize;
-    let row = WORDS[i];
-    let len = words_len(&row);
-    buffers::write(out, at, &row[..len])
 }
 
 fn write_grant(out: &mut [u8], at: usize, g: Grant) -> usize
@@ -81,7 +61,7 @@ pub fn write_said(out: &mut [u8], at: usize, a: Answer) -> usize
         Err(r) => {
             let on = pieces::write_field(out, at, b"refused ", answers::number_of(r));
             let after = buffers::write(out, on, b" ");
-            write_refusal(out, after, r)
+            buffers::write(out, after, words_of(r))
         }
     }
 }

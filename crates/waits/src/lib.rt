@@ -15,22 +15,14 @@ use words::{Table, slot};
 fn unwritable(wish: Wish) -> bool
     ensures { result ≡ unwritable wish }
 {
-    match wish {
-        Wish::NotWanted => false,
-        Wish::Writable => false,
-        Wish::Unwritable => true,
-    }
+    matches!(wish, Wish::Unwritable)
 }
 
 // The low 32 bits, read as a two's complement number.
 fn signed(status: u64) -> i32
     ensures { result ≡ signed status }
 {
-    let low = status % 4294967296;
-    if low < 2147483648 {
-        return low as i32;
-    }
-    -1 - ((4294967295 - low) as i32)
+    ((status & 0xffff_ffff) as u32).cast_signed()
 }
 
 // ---- wait
@@ -48,22 +40,17 @@ fn reap_child(
         return Err(Refusal::StatusUnwritable);
     }
     let m = slot::meta_at(t, i);
-    let pid = m.pid;
     taking::free_proc(t, i);
-    Ok(Grant::Reaped(pid, m.xstate))
+    Ok(Grant::Reaped(m.pid, m.xstate))
 }
 
 fn await_child(t: &mut [u64; Table::WORDS], hart: usize, wish: Wish, caller: usize) -> Answer
     requires { (hart < hart_count) × (caller < slot_count) }
     ensures { Makes (waited_for (table_of t.old) hart wish caller None) result (table_of t.new) }
 {
-    let m = slot::meta_at(t, caller);
-    if m.killed {
+    if slot::meta_at(t, caller).killed || scans::child_of(t, caller).is_none() {
         return Err(Refusal::NoneSuch);
     }
-    let Some(_) = scans::child_of(t, caller) else {
-        return Err(Refusal::NoneSuch);
-    };
     moves::sleep_on(t, hart, caller, moves::own_channel(caller));
     Ok(Grant::Blocked)
 }
@@ -73,15 +60,10 @@ pub fn wait(t: &mut [u64; Table::WORDS], hart: usize, wish: Wish) -> Answer
     requires { Sound (table_of t.old) }
     ensures { Did (wait hart wish) (table_of t.old) result (table_of t.new) }
 {
-    let c = taking::caller_on(t, hart);
-    match c {
-        Err(n) => Err(n),
-        Ok(caller) => {
-            match scans::zombie_child_of(t, caller) {
-                Some(i) => reap_child(t, hart, wish, caller, i),
-                None => await_child(t, hart, wish, caller),
-            }
-        }
+    let caller = taking::caller_on(t, hart)?;
+    match scans::zombie_child_of(t, caller) {
+        Some(i) => reap_child(t, hart, wish, caller, i),
+        None => await_child(t, hart, wish, caller),
     }
 }
 
@@ -106,29 +88,18 @@ fn join_by(t: &mut [u64; Table::WORDS], hart: usize, pid: Pid, wish: Wish, calle
     requires { (hart < hart_count) × (caller < slot_count) }
     ensures { Makes (joined_by (table_of t.old) hart pid wish caller) result (table_of t.new) }
 {
-    let k = slot::kin_at(t, caller);
-    let group = k.group;
-    let Some(g) = group else {
-        return Err(Refusal::NoGroup);
-    };
-    let m = slot::meta_at(t, caller);
-    let own = m.pid;
-    if own.0 == pid.0 {
+    let g = slot::kin_at(t, caller).group.ok_or(Refusal::NoGroup)?;
+    if slot::meta_at(t, caller).pid == pid {
         return Err(Refusal::NoneSuch);
     }
-    match scans::thread_named(t, pid, Some(g)) {
-        None => Err(Refusal::NoneSuch),
-        Some(i) => join_to(t, hart, wish, caller, i),
-    }
+    let i = scans::thread_named(t, pid, Some(g)).ok_or(Refusal::NoneSuch)?;
+    join_to(t, hart, wish, caller, i)
 }
 
 pub fn join_user_thread(t: &mut [u64; Table::WORDS], hart: usize, pid: Pid, wish: Wish) -> Answer
     requires { Sound (table_of t.old) }
     ensures { Did (join hart pid wish) (table_of t.old) result (table_of t.new) }
 {
-    let c = taking::caller_on(t, hart);
-    match c {
-        Err(n) => Err(n),
-        Ok(caller) => join_by(t, hart, pid, wish, caller),
-    }
+    let caller = taking::caller_on(t, hart)?;
+    join_by(t, hart, pid, wish, caller)
 }

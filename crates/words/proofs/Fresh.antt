@@ -1,13 +1,15 @@
 -- Words all zero hold the fresh table; and numbers become words and come back.
 use Rattle.std.specs.Prelude.{Option, Some, None}
 use Rattle.rules.specs.declared.Slot.{Slot}
-use Rattle.std.proofs.Common.{◌≡◌, ℕ, zero, suc, ◌+◌, ◌-◌, ◌%◌, ◌<◌, Bool, true, false, eqb, List, [], ◌∷◌, replicate, refl, ap, ◌∙◌, mod-eq_of_lt, arith, ne_eqb}
+use Rattle.std.proofs.Common.{◌≡◌, ℕ, zero, suc, ◌+◌, ◌-◌, ◌%◌, ◌<◌, Bool, true, false, eqb, List, [], ◌∷◌, replicate, refl, ap, ◌∙◌, mod-eq_of_lt, sym, subst, arith, ne_eqb}
 use Rattle.rules.specs.Sizes.{slot_count, group_count, hart_count, trapframe, trampoline, page_size, name_size}
 use Rattle.rules.specs.Model.{free, no_group, fresh}
 use Rattle.promises.specs.Laws.Lists.{same-all}
+use Rattle.promises.specs.Order.Sound.{Sound}
+use Rattle.promises.proofs.Reached.{fresh-sound}
 use Rattle.promises.specs.Laws.Ring.{reads, length_of, queue_of}
 use Rattle.words.specs.declared.queue.RingAt.{RingAt}
-use Rattle.words.specs.Layout.{slot_columns, size_column, count_column, init_cell, pids_cell, hart_cell, column_at, cell_at, column, cell}
+use Rattle.words.specs.Layout.{slot_columns, size_column, count_column, init_cell, pids_cell, hart_cell, cell_number, column_at, cell_at, column, cell}
 use Rattle.words.specs.Reading.{tab_from, tab, bytes_of, row_of, process_of, count_at, ring_of, queue_at, run_queue, slots_of, harts_of, groups_of, core_of, books_of, table_of, flag_of, parent_of, member_of, flag_word, parent_word, member_word, InTable, InGroups}
 
 -- ---- words all zero, however many they are
@@ -38,7 +40,7 @@ module _ (n : ℕ) where
 
   queue-new : (r : RingAt) → queue_at r zeros ≡ []
   unfolding queue_at queue_of length_of reads ring_of count_at
-  queue-new r = rw (cell-zero r.head, cell-zero r.tail)
+  queue-new r = rw (cell-zero (cell_number r.head), cell-zero (cell_number r.tail))
 
   harts-new : harts_of zeros ≡ replicate hart_count None
   unfolding harts_of tab
@@ -48,9 +50,12 @@ module _ (n : ℕ) where
   unfolding groups_of tab
   groups-new = tab-same group_count 0 _ no_group (λ g. rw (column-zero size_column g, column-zero count_column g))
 
-  pub new-law : table_of zeros ≡ fresh
+  pub new_law : table_of zeros ≡ fresh
   unfolding table_of core_of books_of fresh
-  new-law = rw (slots-new, queue-new run_queue, harts-new, groups-new, cell-zero init_cell, cell-zero pids_cell)
+  new_law = rw (slots-new, queue-new run_queue, harts-new, groups-new, cell-zero init_cell, cell-zero pids_cell)
+
+  pub new_sound : Sound (table_of zeros)
+  new_sound = subst Sound (sym new_law) fresh-sound
 
 -- ---- a word and back
 pub flag-back : (b : Bool) → flag_of (flag_word b) ≡ b

@@ -1,7 +1,16 @@
 -- Words do not get in each other's way: what a store at one place leaves of all others.
-use Rattle.std.proofs.Common.{◌≡◌, ℕ, ◌+◌, ◌*◌, ◌<◌, Bool, true, false, leb, ◌≢◌, List, length, set, sym, refl, ap, mul-le-mul_right, arith, get_or-set_other, get_or-set_same, leb-false, leb-true}
+use Rattle.std.proofs.Common.{◌≡◌, ℕ, ◌+◌, ◌*◌, ◌<◌, Bool, true, false, leb, ◌≢◌, List, length, set, sym, refl, ap, mul-le-mul_right, arith, rules, get_or-set_other, get_or-set_same, leb-false, leb-true}
 use Rattle.rules.specs.Sizes.{slot_count, hart_count}
-use Rattle.words.specs.Layout.{columns, cells, column_at, cell_at, word_count, column, cell}
+use Rattle.words.specs.declared.layout.Column.{Column}
+use Rattle.words.specs.declared.layout.Cell.{Cell}
+use Rattle.words.specs.Layout.{columns, cells, column_number, cell_number, column_at, cell_at, word_count, column, cell}
+
+pub in_columns : (f : Column) → column_number f < columns
+in_columns f = search rules
+
+pub in_cells : (k : Cell) → cell_number k < cells + hart_count
+unfolding hart_count
+in_cells k = search rules
 
 -- a lower column lies wholly before a higher one
 before : (n f g s i : ℕ) → s < n → f < g → f * n + s < g * n + i

@@ -10,7 +10,7 @@ use Rattle.rules.specs.Moves.{change}
 use Rattle.promises.specs.Laws.Ring.{Ring, queue_of}
 use Rattle.promises.specs.Order.Chains.{on_core}
 use Rattle.words.specs.declared.queue.RingAt.{RingAt}
-use Rattle.words.specs.Layout.{slot_columns, size_column, count_column, init_cell, pids_cell, hart_cell, column_at, word_count, column, cell}
+use Rattle.words.specs.Layout.{slot_columns, size_column, count_column, init_cell, pids_cell, hart_cell, column_number, cell_number, column_at, word_count, column, cell}
 use Rattle.words.specs.Reading.{row_of, process_of, turns, count_at, places_of, ring_of, queue_at, run_queue, slots_of, harts_of, group_of, groups_of, core_of, books_of, table_of, parent_of}
 use Rattle.words.proofs.Places.{column-range, column-here, column-there, cell-kept}
 use Rattle.words.proofs.Tabs.{get_d-tab, tab-same, tab-set}
@@ -42,11 +42,11 @@ module _ (w u : List ℕ) where
   unfolding groups_of group_count
   groups-kept h k = tab-same slot_count (group_of u) (group_of w) no_group (λ g b. group-is (h g b) (k g b))
 
-  pub places-kept : (r : RingAt) → ((p : ℕ) → p < slot_count → column u r.places p ≡ column w r.places p) → places_of r u ≡ places_of r w
+  pub places-kept : (r : RingAt) → ((p : ℕ) → p < slot_count → column u (column_number r.places) p ≡ column w (column_number r.places) p) → places_of r u ≡ places_of r w
   unfolding places_of
   places-kept r h = tab-same slot_count _ _ 0 (λ p b. ap (λ (x : ℕ). x % slot_count) (h p b))
 
-  pub queue-kept : (r : RingAt) → ((p : ℕ) → p < slot_count → column u r.places p ≡ column w r.places p) → cell u r.head ≡ cell w r.head → cell u r.tail ≡ cell w r.tail
+  pub queue-kept : (r : RingAt) → ((p : ℕ) → p < slot_count → column u (column_number r.places) p ≡ column w (column_number r.places) p) → cell u (cell_number r.head) ≡ cell w (cell_number r.head) → cell u (cell_number r.tail) ≡ cell w (cell_number r.tail)
       → queue_at r u ≡ queue_at r w
   unfolding queue_at ring_of count_at
   queue-kept r h a b = ap (queue_of slot_count turns) (ring-is (places-kept r h) (ap (λ (x : ℕ). x % turns) a) (ap (λ (x : ℕ). x % turns) b))
@@ -60,7 +60,7 @@ pub record Row (w u : List ℕ) (s : ℕ) (r : List ℕ) : Type 0 where
   pub long : length u ≡ word_count
   pub here : row_of u s ≡ r
   pub other : (i : ℕ) → i < slot_count → (i ≡ s → ⊥) → row_of u i ≡ row_of w i
-  pub queues : (r : RingAt) → slot_columns ≤ r.places → queue_at r u ≡ queue_at r w
+  pub queues : (r : RingAt) → slot_columns ≤ column_number r.places → queue_at r u ≡ queue_at r w
   pub harts : harts_of u ≡ harts_of w
   pub books : books_of u ≡ books_of w
 
@@ -73,7 +73,7 @@ row_put {w} {u} {s} {r} f v fb sb o = record {
   long = length-set u (column_at f s) v ∙ o.long;
   here = mine ∙ ap (λ (l : List ℕ). set l f v) o.here;
   other = λ i b n. tab-same slot_columns _ _ 0 (λ g a. column-there u f s v g i sb b (λ e. n (sym e.1))) ∙ o.other i b n;
-  queues = λ r a. queue-kept u x r (λ p b. above r.places p a b) (cells r.head) (cells r.tail) ∙ o.queues r a;
+  queues = λ r a. queue-kept u x r (λ p b. above (column_number r.places) p a b) (cells (cell_number r.head)) (cells (cell_number r.tail)) ∙ o.queues r a;
   harts = harts-kept u x (λ h b. cells (hart_cell h)) ∙ o.harts;
   books = books-is (groups-kept u x (λ g b. above size_column g (omega arith) b) (λ g b. above count_column g (omega arith) b)) (ap parent_of (cells init_cell)) (cells pids_cell) ∙ o.books;
 }

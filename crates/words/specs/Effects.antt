@@ -12,7 +12,7 @@ use Rattle.rules.specs.Model.{Core, Books, Table, group_at}
 use Rattle.rules.specs.Moves.{set_group}
 use Rattle.promises.specs.Order.Chains.{on_core}
 use Rattle.words.specs.declared.queue.RingAt.{RingAt}
-use Rattle.words.specs.Layout.{column_at, cell_at}
+use Rattle.words.specs.Layout.{column_number, cell_number, column_at, cell_at}
 use Rattle.words.specs.Reading.{turns, count_at}
 
 unfoldable pub on_books : (Books → Books) → Table → Table
@@ -74,7 +74,7 @@ pub record Popped (t : Table) (s : ℕ) (u : Table) : Type 0 where
 
 -- ---- the words of a ring: s pushed, and its head popped
 unfoldable pub pushed : RingAt → ℕ → List ℕ → List ℕ
-pushed r s w = slice_set (slice_set w (column_at r.places (count_at w r.tail % slot_count)) s) (cell_at r.tail) ((count_at w r.tail + 1) % turns)
+pushed r s w = slice_set (slice_set w (column_at (column_number r.places) (count_at w r.tail % slot_count)) s) (cell_at (cell_number r.tail)) ((count_at w r.tail + 1) % turns)
 
 unfoldable pub popped : RingAt → List ℕ → List ℕ
-popped r w = slice_set w (cell_at r.head) ((count_at w r.head + 1) % turns)
+popped r w = slice_set w (cell_at (cell_number r.head)) ((count_at w r.head + 1) % turns)

@@ -1,7 +1,10 @@
 -- Where each word stands: a column for each field, with a word for each slot (or group, or place of the ring), then single cells, then the harts.
-use Rattle.std.specs.Prelude.{ℕ, ◌+◌, ◌*◌, ◌<◌, ◌≢◌, List, slice_index}
+use Rattle.std.specs.Prelude.{ℕ, ◌+◌, ◌*◌, List, slice_index}
 use Rattle.rules.specs.Sizes.{slot_count, hart_count}
-use Rattle.words.specs.declared.queue.RingAt.{RingAt}
+use Rattle.words.specs.declared.layout.Column.{Column}
+use Rattle.words.specs.declared.layout.Cell.{Cell}
+use Rattle.words.specs.declared.layout.Column.TheVariants.{State, Channel, Killed, Xstate, Pid, Queued, Group, Parent, Thread, System, Below, Sp, Entry, Top, Arg, Ret, Name0, Name1, Size, Count, Place}
+use Rattle.words.specs.declared.layout.Cell.TheVariants.{Head, Tail, Init, Pids}
 
 -- of a slot: its meta,
 abbrev pub state_column : ℕ
@@ -77,6 +80,29 @@ place_column = slot_columns + 2
 abbrev pub columns : ℕ
 columns = slot_columns + 3
 
+abbrev pub column_number : Column → ℕ
+column_number State = state_column
+column_number Channel = channel_column
+column_number Killed = killed_column
+column_number Xstate = xstate_column
+column_number Pid = pid_column
+column_number Queued = queued_column
+column_number Group = group_column
+column_number Parent = parent_column
+column_number Thread = thread_column
+column_number System = system_column
+column_number Below = below_column
+column_number Sp = sp_column
+column_number Entry = entry_column
+column_number Top = top_column
+column_number Arg = arg_column
+column_number Ret = ret_column
+column_number Name0 = name0_column
+column_number Name1 = name1_column
+column_number Size = size_column
+column_number Count = count_column
+column_number Place = place_column
+
 unfoldable pub column_at : ℕ → ℕ → ℕ
 column_at f s = f * slot_count + s
 
@@ -96,6 +122,12 @@ pids_cell = 3
 abbrev pub cells : ℕ
 cells = 4
 
+abbrev pub cell_number : Cell → ℕ
+cell_number Head = head_cell
+cell_number Tail = tail_cell
+cell_number Init = init_cell
+cell_number Pids = pids_cell
+
 abbrev pub hart_cell : ℕ → ℕ
 hart_cell h = cells + h
 
@@ -104,13 +136,6 @@ cell_at k = columns * slot_count + k
 
 unfoldable pub word_count : ℕ
 word_count = columns * slot_count + cells + hart_count
-
--- a ring that stands in the words, its two cells apart
-pub record Stands (r : RingAt) : Type 0 where
-  pub head : r.head < cells + hart_count
-  pub tail : r.tail < cells + hart_count
-  pub apart : r.head ≢ r.tail
-  pub places : r.places < columns
 
 -- ---- reading
 unfoldable pub column : List ℕ → ℕ → ℕ → ℕ

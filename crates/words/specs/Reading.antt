@@ -13,8 +13,11 @@ use Rattle.rules.specs.Model.{Core, Books, Table, pid, slot}
 use Rattle.promises.specs.Laws.Ring.{Ring, queue_of}
 pub use Rattle.promises.specs.Order.Sound.{InTable, InGroups}
 use Rattle.words.specs.declared.slot.StartWords.{StartWords}
+use Rattle.words.specs.declared.layout.Cell.{Cell}
+use Rattle.words.specs.declared.layout.Cell.TheVariants.{Head, Tail}
+use Rattle.words.specs.declared.layout.Column.TheVariants.{Place}
 use Rattle.words.specs.declared.queue.RingAt.{RingAt}
-use Rattle.words.specs.Layout.{state_column, channel_column, killed_column, xstate_column, pid_column, queued_column, group_column, parent_column, thread_column, system_column, below_column, sp_column, entry_column, top_column, arg_column, ret_column, name0_column, name1_column, slot_columns, size_column, count_column, place_column, head_cell, tail_cell, init_cell, pids_cell, hart_cell, column, cell}
+use Rattle.words.specs.Layout.{state_column, channel_column, killed_column, xstate_column, pid_column, queued_column, group_column, parent_column, thread_column, system_column, below_column, sp_column, entry_column, top_column, arg_column, ret_column, name0_column, name1_column, slot_columns, size_column, count_column, column_number, cell_number, init_cell, pids_cell, hart_cell, column, cell}
 
 -- f k, f (k + 1), .., n of them
 unfoldable pub tab_from : {A : Type 0} → ℕ → ℕ → (ℕ → A) → List A
@@ -96,15 +99,15 @@ process_of r = record { meta = meta_of r; kin = kin_of r; start = start_of (star
 abbrev pub turns : ℕ
 turns = 2 ^ 32
 
-unfoldable pub count_at : List ℕ → ℕ → ℕ
-count_at w k = cell w k % turns
+unfoldable pub count_at : List ℕ → Cell → ℕ
+count_at w k = cell w (cell_number k) % turns
 
 -- what the place holds that is i past the head
 unfoldable pub place_at : RingAt → List ℕ → ℕ → ℕ
-place_at r w i = column w r.places ((count_at w r.head + i) % slot_count) % slot_count
+place_at r w i = column w (column_number r.places) ((count_at w r.head + i) % slot_count) % slot_count
 
 unfoldable pub places_of : RingAt → List ℕ → List ℕ
-places_of r w = tab slot_count (λ p. column w r.places p % slot_count)
+places_of r w = tab slot_count (λ p. column w (column_number r.places) p % slot_count)
 
 unfoldable pub ring_of : RingAt → List ℕ → Ring
 ring_of r w = record { places = places_of r w; head = count_at w r.head; tail = count_at w r.tail }
@@ -113,7 +116,7 @@ unfoldable pub queue_at : RingAt → List ℕ → List ℕ
 queue_at r w = queue_of slot_count turns (ring_of r w)
 
 abbrev pub run_queue : RingAt
-run_queue = record { head = head_cell; tail = tail_cell; places = place_column }
+run_queue = record { head = Head; tail = Tail; places = Place }
 
 -- ---- the table
 unfoldable pub slots_of : List ℕ → List Process

@@ -10,6 +10,5 @@ use Rattle.births.proofs.boot_in.Goals as goal
 pub returns : goal.returns
 unfolding init_name bytes
 returns c =
-    let a = c.args in
-    init-law (table_of a.t.now) a.i _ c.new_group-g.result c.user_sp.result c.pack-name.result.low c.pack-name.result.high c.pids-n.ensures c.new_group-g.ensures.0 c.user_sp.ensures c.pack-name.ensures
+    init-law (table_of c.args.t.now) c.args.i _ _ c.pids-n.ensures c.new_group-g.ensures.0 c.user_sp.ensures c.pack-name.ensures
     (c.set_init.ensures ∙ ap (on_books (with_init _)) (c.set_group.ensures ∙ ap (on_books (set_group _ _)) c.fill.ensures))

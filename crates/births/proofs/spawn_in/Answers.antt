@@ -13,5 +13,4 @@ make_runnable-requires c =
 
 pub returns : goal.returns
 returns c =
-    system-law (table_of c.args.t.now) c.args.name.now c.args.entry c.args.i _ c.system_sp.result c.pack-w.result.low c.pack-w.result.high c.pids-n.ensures c.system_sp.ensures c.pack-w.ensures
-    (c.make_runnable.ensures ∙ ap (on_core (publish _)) c.fill.ensures)
+    system-law (table_of c.args.t.now) c.args.name.now c.args.entry c.args.i _ _ c.pids-n.ensures c.system_sp.ensures c.pack-w.ensures (c.make_runnable.ensures ∙ ap (on_core (publish _)) c.fill.ensures)

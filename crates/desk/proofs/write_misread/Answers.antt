@@ -7,5 +7,7 @@ use Rattle.desk.proofs.write_misread.Goals as goal
 
 pub returns : goal.returns
 unfolding misread_text field bytes
-returns c =
-    (wrote-more (wrote-more (wrote-more c.write_field-a.ensures.0 c.write-b.ensures) c.write_why-c.ensures.0) c.write.ensures, omega (arith, c.write_field-a.ensures.1, c.write-b.ensures.place, c.write_why-c.ensures.1, c.write.ensures.place))
+returns c = (
+  wrote-more (wrote-more (wrote-more c.write_field-a.ensures.0 c.write-b.ensures) (rw c.why_text.ensures.text at c.write-c.ensures)) c.write.ensures,
+  omega (arith, c.write_field-a.ensures.1, c.write-b.ensures.place, c.why_text.ensures.short, c.write-c.ensures.place, c.write.ensures.place),
+)

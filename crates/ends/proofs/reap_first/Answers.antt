@@ -1,25 +1,17 @@
-use Rattle.ends.proofs.ReapLaws.{look_none, look-live, look-reaps}
-use Rattle.words.specs.Reading.{table_of}
-use Rattle.std.proofs.Common.{sym, subst, ◌∙◌}
-use Rattle.scans.specs.Tests.{InRange}
+use Rattle.std.specs.Prelude.{None}
+use Rattle.std.proofs.Common.{◌≡◌, refl}
+use Rattle.rules.specs.Calls.{reap_if_zombie, reap_first}
+use Rattle.ends.specs.Looks.{is_zombie, first_is_zombie}
 use Rattle.ends.proofs.reap_first.Goals as goal
 
 pub returns-in_default : goal.returns-in_default
-returns-in_default c =
-    look_none c.args.m (table_of c.args.t.now) c.thread_of.result c.thread_of.ensures.0 (cc)
-
-pub is-requires : goal.is-requires
-is-requires c =
-    subst InRange c.in-Some.is c.thread_of.ensures.1
-
-pub free_proc-requires : goal.free_proc-requires
-free_proc-requires c =
-    subst InRange c.in-Some.is c.thread_of.ensures.1
+unfolding reap_first reap_if_zombie first_is_zombie is_zombie
+returns-in_default c = let z : c.thread_of.result ≡ None = cc in rw (← c.thread_of.ensures.0, z) (refl, refl)
 
 pub returns-then-is : goal.returns-then-is
-returns-then-is c =
-    look-reaps c.args.m (table_of c.args.t.now) c.thread_of.result c.thread_of.ensures.0 (sym c.in-Some.is) (sym c.is.ensures ∙ c.if-is.true) c.free_proc.ensures
+unfolding reap_first reap_if_zombie first_is_zombie is_zombie
+returns-then-is c = rw (← c.in-Some.ensures.0, ← c.if-is.ensures) (c.free_proc.ensures, refl)
 
 pub returns : goal.returns
-returns c =
-    look-live c.args.m (table_of c.args.t.now) c.thread_of.result c.thread_of.ensures.0 (sym c.in-Some.is) (sym c.is.ensures ∙ c.if-is.false)
+unfolding reap_first reap_if_zombie first_is_zombie is_zombie
+returns c = rw (← c.in-Some.ensures.0, ← c.if-is.ensures) (refl, refl)

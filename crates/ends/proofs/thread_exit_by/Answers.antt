@@ -1,22 +1,19 @@
-use Rattle.ends.proofs.EndLaws.{stayed, thread-exits, leader-exits}
+use Rattle.std.proofs.Common.{sym}
+use Rattle.taking.proofs.Facts.{if-so, if-not}
 use Rattle.words.specs.Reading.{table_of}
-use Rattle.std.proofs.Common.{sym, ◌∙◌}
+use Rattle.rules.specs.Calls.{thread_exited_by}
 use Rattle.ends.proofs.thread_exit_by.Goals as goal
 
 pub returns-then-stays : goal.returns-then-stays
-returns-then-stays c =
-    stayed (table_of c.args.t.now) c.args.hart c.args.status c.args.caller (sym c.stays.ensures ∙ c.if-stays.true)
+unfolding thread_exited_by
+returns-then-stays c = if-so _ (sym c.if-stays.ensures)
 
-pub exit_thread-requires : goal.exit_thread-requires
-exit_thread-requires c =
-    (c.requires.0, c.requires.1, c.requires.2.queued)
-
-pub returns-then-k : goal.returns-then-k
-returns-then-k c =
-    thread-exits (table_of c.args.t.now) c.args.hart c.args.status c.args.caller c.kin_at-k.ensures.0 (sym c.stays.ensures ∙ c.if-stays.false)
-    c.if-k.true c.exit_thread.ensures
+pub returns-then-kin_at : goal.returns-then-kin_at
+unfolding thread_exited_by
+returns-then-kin_at c =
+    if-not _ (table_of c.args.t.now) (sym c.if-stays.ensures) (rw (← c.kin_at.ensures.0, c.if-kin_at.true) c.exit_thread.ensures)
 
 pub returns : goal.returns
+unfolding thread_exited_by
 returns c =
-    leader-exits (table_of c.args.t.now) c.args.hart c.args.status c.args.caller c.kin_at-k.ensures.0 (sym c.stays.ensures ∙ c.if-stays.false)
-    c.if-k.false c.exit_leader.ensures
+    if-not _ (table_of c.args.t.now) (sym c.if-stays.ensures) (rw (← c.kin_at.ensures.0, c.if-kin_at.false) c.exit_leader.ensures)

@@ -1,18 +1,16 @@
-use Rattle.forks.proofs.ForkLaws.{fork-no, fork-is}
+use Rattle.taking.proofs.Facts.{exit-refused, hart-no, hart-is}
 use Rattle.promises.proofs.Did.{did}
 use Rattle.words.specs.Reading.{table_of}
-use Rattle.std.proofs.Common.{sym, subst, ◌∙◌}
-use Rattle.taking.specs.Parts.{InHart}
+use Rattle.rules.specs.Calls.{forked}
+use Rattle.rules.specs.Runs.{step}
 use Rattle.forks.proofs.fork.Goals as goal
 
-pub fork_by-requires : goal.fork_by-requires
-fork_by-requires c =
-    let k = subst (InHart _) c.in-Ok.is c.caller_on-c.ensures.1 in (k.0, c.requires)
+pub returns-in_err-caller : goal.returns-in_err-caller
+unfolding step forked
+returns-in_err-caller c =
+    did c.requires (exit-refused c.from_residual.ensures (hart-no (table_of c.args.t.now) _ _ c.in_err-caller.ensures.0))
 
-pub returns-in-Err : goal.returns-in-Err
-returns-in-Err c =
-    did c.requires (fork-no (table_of c.args.t.now) _ _ _ (sym c.in-Err.is ∙ c.caller_on-c.ensures.0))
-
-pub returns-in-Ok : goal.returns-in-Ok
-returns-in-Ok c =
-    did c.requires (fork-is (table_of c.args.t.now) _ _ (sym c.in-Ok.is ∙ c.caller_on-c.ensures.0) c.fork_by.ensures)
+pub returns : goal.returns
+unfolding step forked
+returns c =
+    did c.requires (hart-is (table_of c.args.t.now) _ _ c.in_ok-caller.ensures.0 c.fork_by.ensures)

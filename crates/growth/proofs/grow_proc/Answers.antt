@@ -1,18 +1,15 @@
-use Rattle.growth.proofs.GrowLaws.{grow-no, grow-is}
-use Rattle.words.specs.Reading.{table_of}
-use Rattle.std.proofs.Common.{to_z-of_z, sym, subst, ◌∙◌}
-use Rattle.promises.proofs.Did.{did}
-use Rattle.taking.specs.Parts.{InHart}
+use Rattle.growth.proofs.GrowLaws.{grow-out, grow-unfed, grow-is}
+use Rattle.std.proofs.Common.{to_z-of_z}
 use Rattle.growth.proofs.grow_proc.Goals as goal
 
-pub grow_by-requires : goal.grow_by-requires
-grow_by-requires c =
-    ((subst (InHart _) c.in-Ok.is c.caller_on-c.ensures.1).0, c.requires)
+pub returns-in_err-size : goal.returns-in_err-size
+returns-in_err-size c =
+    grow-out c.requires c.in_ok-caller.ensures.0 c.kin_at.ensures.0 c.in_ok-g.ensures.ok_part c.group_at.ensures (to_z-of_z c.ranges.count) c.new_size.ensures c.in_err-size.ensures.value c.from_residual-in_err-size.ensures
 
-pub returns-in-Err : goal.returns-in-Err
-returns-in-Err c =
-    did c.requires (grow-no (table_of c.args.t.now) _ _ _ _ (sym c.in-Err.is ∙ c.caller_on-c.ensures.0))
+pub returns-then-not-memory : goal.returns-then-not-memory
+returns-then-not-memory c =
+    grow-unfed c.requires c.in_ok-caller.ensures.0 c.kin_at.ensures.0 c.in_ok-g.ensures.ok_part c.group_at.ensures (to_z-of_z c.ranges.count) c.new_size.ensures c.in_ok-size.ensures.ok_part c.if-count-gt0.true c.if-not-memory.true
 
-pub returns-in-Ok : goal.returns-in-Ok
-returns-in-Ok c =
-    did c.requires (grow-is (table_of c.args.t.now) _ _ _ (to_z-of_z c.ranges.count) (sym c.in-Ok.is ∙ c.caller_on-c.ensures.0) c.grow_by.ensures)
+pub returns : goal.returns
+returns c =
+    grow-is c.requires c.in_ok-caller.ensures.0 c.kin_at.ensures.0 c.in_ok-g.ensures.ok_part c.group_at.ensures (to_z-of_z c.ranges.count) c.new_size.ensures c.in_ok-size.ensures.ok_part c.else-count-gt0.either c.set_size.ensures

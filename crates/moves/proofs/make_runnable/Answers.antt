@@ -1,12 +1,8 @@
-use Rattle.moves.proofs.MoveLaws.{publish-law, change-queue}
+use Rattle.moves.proofs.MoveLaws.{publish-law}
 use Rattle.std.proofs.Common.{◌∙◌}
 use Rattle.words.specs.Reading.{table_of}
 use Rattle.words.proofs.Changes.{change-then}
 use Rattle.moves.proofs.make_runnable.Goals as goal
-
-pub push-requires : goal.push-requires
-push-requires c =
-    (c.requires.0, rw (c.set_queued.ensures, change-queue, c.set_state.ensures, change-queue) c.requires.1)
 
 pub returns : goal.returns
 returns c =

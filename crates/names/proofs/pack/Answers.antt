@@ -3,4 +3,4 @@ use Rattle.names.proofs.pack.Goals as goal
 
 pub returns : goal.returns
 returns c =
-    two-words c.args.name.now c.word-low.ensures c.word-high.ensures
+    two-words c.args.name.now c.word.ensures c.word-2.ensures

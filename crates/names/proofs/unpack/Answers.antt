@@ -1,7 +1,5 @@
-use Rattle.std.proofs.Common.{div-one}
-use Rattle.words.specs.Reading.{bytes_of, tab, tab_from}
+use Rattle.names.proofs.PackLaws.{le-bytes}
 use Rattle.names.proofs.unpack.Goals as goal
 
 pub returns : goal.returns
-unfolding bytes_of tab tab_from
-returns c = simp div-one
+returns c = rw (← le-bytes c.args.a, ← le-bytes c.args.b, c.copy_from_slice.ensures.after, c.copy_from_slice-2.ensures.after, c.to_le_bytes.ensures, c.to_le_bytes-2.ensures)

@@ -1,10 +1,10 @@
 use Rattle.pieces.specs.Pieces.{hex_text}
 use Rattle.buffers.specs.Text.{Wrote}
-use Rattle.std.proofs.Common.{length, take, ◌≡◌, ◌+◌, ◌*◌, ◌-◌, ◌≤◌}
+use Rattle.std.proofs.Common.{take, ◌+◌, ◌*◌, ◌≤◌}
 use Rattle.pieces.proofs.write_hex.Given as goal
 
-abbrev pub invariant-loop-i : goal.invariant-loop-i
-invariant-loop-i l = (l.i ≤ length l.name) × (length l.out ≡ length l.initial.out) × Wrote l.initial.out l.at (hex_text (take l.i l.name)) l.out l.on × (l.on ≤ l.at + 2 * l.i)
-
-abbrev pub decreases-loop-i : goal.decreases-loop-i
-decreases-loop-i l = length l.name - l.i
+abbrev pub invariant-loop-b : goal.invariant-loop-b
+invariant-loop-b l = record {
+  text : Wrote l.initial.out l.at (hex_text (take l.b-index l.name)) l.out l.on;
+  bound : l.on ≤ l.at + 2 * l.b-index;
+}

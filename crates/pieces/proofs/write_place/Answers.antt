@@ -1,16 +1,17 @@
-use Rattle.std.specs.Prelude.{None}
-use Rattle.buffers.proofs.TextLaws.{wrote_as, wrote-more}
+use Rattle.buffers.proofs.TextLaws.{wrote-more}
+use Rattle.promises.specs.Laws.Digits.{digits-length}
 use Rattle.pieces.specs.Pieces.{place_text}
 use Rattle.rules.specs.Listing.{bytes}
-use Rattle.std.proofs.Common.{rules}
+use Rattle.std.proofs.Common.{arith}
 use Rattle.pieces.proofs.write_place.Goals as goal
+
+pub write-requires-in-Some : goal.write-requires-in-Some
+write-requires-in-Some c = omega (arith, digits-length c.in-Some.s.0)
 
 pub returns-in-None : goal.returns-in-None
 unfolding place_text bytes
-returns-in-None c =
-    (wrote-more c.write-on.ensures (wrote_as place_text None {x = c.args.p} (cc) c.write.ensures), search rules)
+returns-in-None c = (rw c.in-None.is (wrote-more c.write-on.ensures c.write.ensures), omega arith)
 
 pub returns-in-Some : goal.returns-in-Some
 unfolding place_text
-returns-in-Some c =
-    (wrote-more c.write-on.ensures (wrote_as place_text _ {x = c.args.p} c.in-Some.is c.write_number.ensures.0), search rules)
+returns-in-Some c = (rw c.in-Some.is (wrote-more c.write-on.ensures c.write-in-Some.ensures), omega (arith, digits-length c.in-Some.s.0))

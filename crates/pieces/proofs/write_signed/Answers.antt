@@ -1,30 +1,19 @@
-use Rattle.promises.specs.Laws.Signs.{less-fits, less-cast, less-is, more-cast}
-use Rattle.pieces.proofs.PieceLaws.{signed_low, signed_high}
-use Rattle.rules.specs.Listing.{bytes}
-use Rattle.std.proofs.Common.{arith, rules}
+use Rattle.pieces.specs.Pieces.{signed_digits}
+use Rattle.rules.specs.Listing.{digits}
+use Rattle.std.proofs.Common.{◌≡◌, ◌++◌, ◌≤◌, length, arith, to_z-of_z}
+use Rattle.pieces.proofs.PieceLaws.{below_zero, from_zero}
 use Rattle.pieces.proofs.write_signed.Goals as goal
-
-pub overflow_sub-x : goal.overflow_sub-x
-overflow_sub-x c =
-    less-fits c.args.x c.ranges.x c.if-x-lt0.true
-
-pub overflow_cast-x : goal.overflow_cast-x
-overflow_cast-x c =
-    less-cast c.args.x c.ranges.x c.if-x-lt0.true tt
-
-pub overflow_add-x : goal.overflow_add-x
-overflow_add-x c =
-    rw (less-is c.args.x c.ranges.x c.if-x-lt0.true) (omega (arith, c.ranges.x.sfits))
-
-pub returns-then-x-lt0 : goal.returns-then-x-lt0
-unfolding bytes
-returns-then-x-lt0 c =
-    (rw (signed_low c.args.x c.ranges.x c.if-x-lt0.true) at c.write_field.ensures.0, search rules)
-
-pub overflow_cast-x-2 : goal.overflow_cast-x-2
-overflow_cast-x-2 c =
-    more-cast c.args.x c.ranges.x c.if-x-lt0.false tt
+use Rattle.pieces.proofs.write_signed.Goals.{then-x-lt0, else-x-lt0}
 
 pub returns : goal.returns
 returns c =
-    (rw (signed_high c.args.x c.ranges.x c.if-x-lt0.false) at c.write_number.ensures.0, search rules)
+    let e = to_z-of_z c.ranges.x in
+    let n = c.from.ensures in
+    let m = c.unsigned_abs.ensures.value in
+    let text : c.if-x-lt0.sign.now ++ digits c.from.result ≡ signed_digits c.args.x =
+    elim c.if-x-lt0.branch [
+      | then-x-lt0 w ↦ rw (w.sign-is, n, m, e) (below_zero c.args.x (rw e at w.if-x-lt0.true))
+      | else-x-lt0 w ↦ rw (w.sign-is, n, m, e) (from_zero c.args.x (rw e at w.if-x-lt0.false))
+    ] in
+    let short : length c.if-x-lt0.sign.now ≤ 1 = elim c.if-x-lt0.branch [ then-x-lt0 w ↦ rw w.sign-is (omega arith) | else-x-lt0 w ↦ rw w.sign-is (omega arith) ] in
+    (rw (← text) c.write_field.ensures.0, omega (arith, c.write_field.ensures.1))

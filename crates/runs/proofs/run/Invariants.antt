@@ -1,10 +1,6 @@
-use Rattle.std.proofs.Common.{◌-◌}
 use Rattle.words.specs.Reading.{table_of}
 use Rattle.runs.proofs.RunLaws.{Midway}
 use Rattle.runs.proofs.run.Given as goal
 
 abbrev pub invariant-loop-n : goal.invariant-loop-n
-invariant-loop-n l = Midway l.text l.calls l.initial.out (table_of l.initial.t) l.most (table_of l.t) l.out l.n l.at l.to
-
-abbrev pub decreases-loop-n : goal.decreases-loop-n
-decreases-loop-n l = l.most - l.n
+invariant-loop-n l = Midway l.text l.calls l.initial.out (table_of l.initial.t) l.most (table_of l.t) l.out l.n

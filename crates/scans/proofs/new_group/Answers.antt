@@ -1,43 +1,22 @@
-use Rattle.std.proofs.Common.{arith, sym, ◌∙◌, ap, eq-eqb, ne_eqb}
+use Rattle.std.specs.Prelude.{ℕ, ◌<◌, ◌≡◌, Bool, List, Option, Some, None, unwrap_or}
+use Rattle.std.proofs.Common.{arith, rules, ap, ◌∙◌}
 use Rattle.rules.specs.Sizes.{slot_count, group_count}
-use Rattle.rules.specs.declared.Group.{Group}
-use Rattle.rules.specs.Model.{no_group}
+use Rattle.rules.specs.Model.{group_at, no_group}
 use Rattle.rules.specs.Moves.{empty_group, or_zero, new_group}
 use Rattle.words.specs.Reading.{table_of}
 use Rattle.words.proofs.Facts.{groups-count}
-use Rattle.scans.proofs.Scan.{scan-all, scan-here, scan-more, scan-none}
+use Rattle.scans.specs.Tests.{IsLeast}
+use Rattle.scans.proofs.Scan.{least-lowest}
 use Rattle.scans.proofs.new_group.Goals as goal
 
-pub loop-g-init : goal.loop-g-init
-unfolding slot_count
-loop-g-init c = (omega arith, scan-all _ _)
-
-pub group_at-space-requires : goal.group_at-space-requires
+pub lowest-requires : goal.lowest-requires
 unfolding slot_count group_count
-group_at-space-requires c = omega arith
+lowest-requires c = search rules
 
-pub returns-then-space-eq0 : goal.returns-then-space-eq0
+least-group : (w : List ℕ) {gives : ℕ → Bool → Type 0} (r : Option ℕ) {n : ℕ} → IsLeast gives r → ((k : ℕ) (b : Bool) → gives k b → b ≡ empty_group (group_at (table_of w).books k)) → n ≡ unwrap_or r 0 → (n ≡ new_group (table_of w).books) × (n < group_count)
 unfolding new_group slot_count group_count
-returns-then-space-eq0 c =
-    let w = c.args.t.now in (
-      ap or_zero (sym (c.loop-g.invariant.1 ∙ scan-here empty_group (table_of w).books.groups no_group c.loop-g.g (omega (arith, groups-count w))
-          (eq-eqb _ _ (ap (λ (x : Group). x.count) (sym c.group_at-space.ensures) ∙ c.if-space-eq0.true)))),
-      omega arith,
-    )
-
-pub loop-g-smaller : goal.loop-g-smaller
-unfolding slot_count
-loop-g-smaller c = omega arith
-
-pub loop-g-preserved : goal.loop-g-preserved
-unfolding slot_count group_count
-loop-g-preserved c =
-    let w = c.args.t.now in (
-      omega arith,
-      c.loop-g.invariant.1 ∙ scan-more empty_group (table_of w).books.groups no_group c.loop-g.g (omega (arith, groups-count w))
-          (ne_eqb _ _ (λ e. c.if-space-eq0.false (ap (λ (x : Group). x.count) c.group_at-space.ensures ∙ e))),
-    )
+least-group w (Some i) f same e = (e ∙ ap or_zero (least-lowest empty_group (table_of w).books.groups no_group (Some i) (groups-count w) f same), omega (arith, e, f.found.0))
+least-group w None f same e = (e ∙ ap or_zero (least-lowest empty_group (table_of w).books.groups no_group None (groups-count w) f same), omega (arith, e))
 
 pub returns : goal.returns
-unfolding new_group slot_count group_count
-returns c = (ap or_zero (sym (c.loop-g.invariant.1 ∙ scan-none empty_group (table_of c.args.t.now).books.groups no_group c.loop-g.g (omega (arith, groups-count c.args.t.now)))), omega arith)
+returns c = least-group c.args.t.now c.lowest.result c.lowest.ensures (λ k b h. search rules) c.unwrap_or.ensures

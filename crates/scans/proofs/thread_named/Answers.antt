@@ -1,6 +1,7 @@
-use Rattle.scans.specs.Tests.{passes}
+use Rattle.std.proofs.Common.{rules}
+use Rattle.rules.specs.Calls.{thread_named}
+use Rattle.scans.proofs.Scan.{least-slot}
 use Rattle.scans.proofs.thread_named.Goals as goal
 
 pub returns : goal.returns
-unfolding passes
-returns c = c.find.ensures
+returns c = least-slot c.args.t.now (thread_named c.args.p c.args.m) c.lowest.ensures (λ k b h. search rules)

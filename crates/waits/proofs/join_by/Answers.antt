@@ -1,26 +1,27 @@
-use Rattle.waits.proofs.WaitLaws.{by-alone, by_itself, by-none, by-thread}
+use Rattle.taking.proofs.Facts.{exit-none, if-so, if-not, found_none, found_at, group-alone, group-in}
+use Rattle.std.proofs.Common.{sym}
 use Rattle.words.specs.Reading.{table_of}
-use Rattle.std.proofs.Common.{sym, ap, subst, ◌∙◌, ne_eqb}
-use Rattle.scans.specs.Tests.{InRange}
-use Rattle.rules.specs.declared.Kin.{Kin}
+use Rattle.rules.specs.Calls.{joined_by}
 use Rattle.waits.proofs.join_by.Goals as goal
 
-pub returns-in_default : goal.returns-in_default
-returns-in_default c =
-    by-alone (table_of c.args.t.now) c.args.hart c.args.pid c.args.wish c.args.caller ((cc) ∙ ap (λ (k : Kin). k.group) c.kin_at-k.ensures.0)
+pub returns-in_err-g : goal.returns-in_err-g
+unfolding joined_by
+returns-in_err-g c =
+    exit-none _ c.from_residual.ensures c.in_err-g.ensures.value (group-alone (table_of c.args.t.now) _ _ (rw (← c.kin_at.ensures.0) (sym c.in_err-g.ensures.ok_part)))
 
-pub returns-then-own-pid : goal.returns-then-own-pid
-returns-then-own-pid c =
-    by_itself (table_of c.args.t.now) c.args.hart c.args.pid c.args.wish c.args.caller (sym c.in-Some.is ∙ ap (λ (k : Kin). k.group) c.kin_at-k.ensures.0) c.meta_at-m.ensures c.if-own-pid.true
+pub returns-then-eq : goal.returns-then-eq
+unfolding joined_by
+returns-then-eq c =
+    group-in (table_of c.args.t.now) _ _ {g = c.in_ok-g.g} (rw (← c.kin_at.ensures.0) (sym c.in_ok-g.ensures.ok_part)) (if-so _ (rw (← c.meta_at.ensures) (sym c.if-eq.ensures)))
 
-pub join_to-requires : goal.join_to-requires
-join_to-requires c =
-    (c.requires.0, c.requires.1, subst InRange c.in-Some-thread_named.is c.thread_named.ensures.1)
+pub returns-in_err-i : goal.returns-in_err-i
+unfolding joined_by
+returns-in_err-i c =
+    exit-none _ c.from_residual-in_err-i.ensures c.in_err-i.ensures.value (group-in (table_of c.args.t.now) _ _ {g = c.in_ok-g.g} (rw (← c.kin_at.ensures.0) (sym c.in_ok-g.ensures.ok_part))
+    (if-not _ (table_of c.args.t.now) (rw (← c.meta_at.ensures) (sym c.if-eq.ensures)) (found_none _ (rw (← c.thread_named.ensures.0) (sym c.in_err-i.ensures.ok_part)))))
 
-pub returns-in-None : goal.returns-in-None
-returns-in-None c =
-    by-none (table_of c.args.t.now) c.args.hart c.args.pid c.args.wish c.args.caller (sym c.in-Some.is ∙ ap (λ (k : Kin). k.group) c.kin_at-k.ensures.0) c.meta_at-m.ensures (ne_eqb _ _ c.if-own-pid.false) c.thread_named.result c.thread_named.ensures.0 (cc)
-
-pub returns-in-Some-thread_named : goal.returns-in-Some-thread_named
-returns-in-Some-thread_named c =
-    by-thread (table_of c.args.t.now) c.args.hart c.args.pid c.args.wish c.args.caller (sym c.in-Some.is ∙ ap (λ (k : Kin). k.group) c.kin_at-k.ensures.0) c.meta_at-m.ensures (ne_eqb _ _ c.if-own-pid.false) c.thread_named.result c.thread_named.ensures.0 (sym c.in-Some-thread_named.is) c.join_to.ensures
+pub returns : goal.returns
+unfolding joined_by
+returns c =
+    group-in (table_of c.args.t.now) _ _ {g = c.in_ok-g.g} (rw (← c.kin_at.ensures.0) (sym c.in_ok-g.ensures.ok_part))
+    (if-not _ (table_of c.args.t.now) (rw (← c.meta_at.ensures) (sym c.if-eq.ensures)) (found_at _ (table_of c.args.t.now) _ {i = c.in_ok-i.i} (rw (← c.thread_named.ensures.0) (sym c.in_ok-i.ensures.ok_part)) c.join_to.ensures))

@@ -1,12 +1,14 @@
-use Rattle.waits.proofs.StatusLaws.{signed_low, signed_high, signed-fits}
-use Rattle.std.proofs.Common.{sym, subst, ◌∙◌, w32, SFits, to_z-of_z}
+use Rattle.std.proofs.Common.{◌≡◌, ℕ, ◌%◌, ◌^◌, ap, ◌∙◌, arith, w32, to_z, to_z-of_z}
+use Rattle.std.proofs.lemmas.Bool.Decides.{nat_tests}
+use Rattle.std.proofs.lemmas.Int.{ints}
+use Rattle.std.proofs.lemmas.Nat.{and_mask}
+use Rattle.rules.specs.Calls.{signed}
 use Rattle.waits.proofs.signed.Goals as goal
 
-pub returns-then-low-lt2147483648 : goal.returns-then-low-lt2147483648
-returns-then-low-lt2147483648 c = signed_low c.args.status c.if-low-lt2147483648.true
-
-pub overflow_sub-result-2 : goal.overflow_sub-result-2
-overflow_sub-result-2 c = subst (SFits w32) (sym (signed_high c.args.status c.if-low-lt2147483648.false)) (signed-fits c.args.status)
+low-signed : (x : ℕ) → to_z w32 (x % 2 ^ 32) ≡ signed x
+unfolding signed
+low-signed x = grind (arith, nat_tests, ints)
 
 pub returns : goal.returns
-returns c = let e = signed_high c.args.status c.if-low-lt2147483648.false in to_z-of_z (subst (SFits w32) (sym e) (signed-fits c.args.status)) ∙ e
+returns c =
+    to_z-of_z {w = w32} (record { sfits = c.cast_signed.type_inv }) ∙ c.cast_signed.ensures ∙ ap (to_z w32) (and_mask c.args.status 32) ∙ low-signed c.args.status

@@ -1,28 +1,21 @@
-use Rattle.std.specs.Prelude.{None}
-use Rattle.waits.proofs.WaitLaws.{wait-no, wait-is}
+use Rattle.taking.proofs.Facts.{exit-refused, hart-no, hart-is}
 use Rattle.promises.proofs.Did.{did}
 use Rattle.words.specs.Reading.{table_of}
-use Rattle.std.proofs.Common.{sym, subst, ◌∙◌}
-use Rattle.taking.specs.Parts.{InHart}
-use Rattle.scans.specs.Tests.{InRange}
+use Rattle.rules.specs.Calls.{waited}
+use Rattle.rules.specs.Runs.{step}
 use Rattle.waits.proofs.wait.Goals as goal
 
-pub reap_child-requires : goal.reap_child-requires
-reap_child-requires c =
-    subst InRange c.in-Some.is c.zombie_child_of.ensures.1
-
-pub await_child-requires : goal.await_child-requires
-await_child-requires c =
-    let k = subst (InHart _) c.in-Ok.is c.caller_on-c.ensures.1 in (k.1, k.0)
-
-pub returns-in-Err : goal.returns-in-Err
-returns-in-Err c =
-    did c.requires (wait-no (table_of c.args.t.now) _ _ _ (sym c.in-Err.is ∙ c.caller_on-c.ensures.0))
+pub returns-in_err-caller : goal.returns-in_err-caller
+unfolding step waited
+returns-in_err-caller c =
+    did c.requires (exit-refused c.from_residual.ensures (hart-no (table_of c.args.t.now) _ _ c.in_err-caller.ensures.0))
 
 pub returns-in-Some : goal.returns-in-Some
+unfolding step waited
 returns-in-Some c =
-    did c.requires (wait-is (table_of c.args.t.now) _ _ (sym c.in-Ok.is ∙ c.caller_on-c.ensures.0) c.zombie_child_of.ensures.0 (sym c.in-Some.is) c.reap_child.ensures)
+    did c.requires (hart-is (table_of c.args.t.now) _ _ c.in_ok-caller.ensures.0 (rw (← c.in-Some.ensures.0) c.reap_child.ensures))
 
 pub returns-in-None : goal.returns-in-None
+unfolding step waited
 returns-in-None c =
-    did c.requires (wait-is (table_of c.args.t.now) _ _ {r = c.zombie_child_of.result} {x = None} (sym c.in-Ok.is ∙ c.caller_on-c.ensures.0) c.zombie_child_of.ensures.0 (cc) c.await_child.ensures)
+    did c.requires (hart-is (table_of c.args.t.now) _ _ c.in_ok-caller.ensures.0 (rw (← c.in-None.ensures.0) c.await_child.ensures))

@@ -1,21 +1,12 @@
-use Rattle.std.proofs.Common.{to_z-of_z, lt-ltb, le-ltb}
-use Rattle.codes.specs.Codes.{is_flag, yes}
-use Rattle.anwalghid.proofs.ExportLaws.{other-number, in-range, out_of_range, first-sound, answered, not-called}
+use Rattle.std.proofs.Common.{rules}
+use Rattle.anwalghid.specs.Exports.{allowed}
+use Rattle.anwalghid.proofs.ExportLaws.{in-range, out_of_range}
 use Rattle.anwalghid.proofs.calls.anwalghid_grow_proc.Goals as goal
 
-pub returns-then-tables-ne1 : goal.returns-then-tables-ne1
-returns-then-tables-ne1 c = record { leaves = other-number _ _ _ c.if-tables-ne1.true; sound = c.requires }
-
-pub returns-then-memory-ge2 : goal.returns-then-memory-ge2
-unfolding is_flag
-returns-then-memory-ge2 c =
-    rw (out_of_range _ _ (le-ltb c.args.memory 2 c.if-memory-ge2.true)) (not-called _ c.if-tables-ne1.false _ c.requires)
-
-pub grow_proc-a-requires : goal.grow_proc-a-requires
-grow_proc-a-requires c =
-    first-sound _ c.if-tables-ne1.false c.requires
+pub returns-in_default : goal.returns-in_default
+unfolding allowed
+returns-in_default c = rw (out_of_range _ c.flag.ensures c.in_default.is) (c.out_of_range.ensures _ c.requires)
 
 pub returns : goal.returns
-unfolding is_flag yes
-returns c =
-    rw (in-range _ _ (lt-ltb c.args.memory 2 c.if-memory-ge2.false)) (answered _ c.if-tables-ne1.false _ (rw (to_z-of_z c.ranges.count) at c.grow_proc-a.ensures) c.words_of.ensures)
+unfolding allowed
+returns c = let e = in-range _ c.flag.ensures c.in-Some.is in rw (e.0, e.1) (c.on_one.ensures _ (search rules))

@@ -1,12 +1,5 @@
-use Rattle.anwalghid.proofs.ExportLaws.{other-number, first-sound, answered}
+use Rattle.std.proofs.Common.{rules}
 use Rattle.anwalghid.proofs.calls.anwalghid_thread_exit.Goals as goal
 
-pub returns-then-tables-ne1 : goal.returns-then-tables-ne1
-returns-then-tables-ne1 c = record { leaves = other-number _ _ _ c.if-tables-ne1.true; sound = c.requires }
-
-pub thread_exit-a-requires : goal.thread_exit-a-requires
-thread_exit-a-requires c = first-sound _ c.if-tables-ne1.false c.requires
-
 pub returns : goal.returns
-returns c =
-    answered _ c.if-tables-ne1.false _ c.thread_exit-a.ensures c.words_of.ensures
+returns c = c.on_one.ensures _ (search rules)

@@ -1,27 +1,16 @@
-use Rattle.lines.proofs.GrammarLaws.{all_names, names-spelled, walk-starts, walk_ends, walk-found, walk-goes}
-use Rattle.rules.specs.Listing.{bytes}
+use Rattle.lines.proofs.GrammarLaws.{number-at, walk-starts, walk_ends, walk-found, walk-goes}
+use Rattle.lines.proofs.WordLaws.{told-same}
+use Rattle.std.proofs.Common.{arith}
 use Rattle.lines.proofs.grammar.find.Goals as goal
 
-pub loop-k-init : goal.loop-k-init
-loop-k-init c = walk-starts all_names c.args.w.now names-spelled
+pub loop-command-init : goal.loop-command-init
+loop-command-init c = walk-starts c.args.name.now
 
-pub next-n-requires : goal.next-n-requires
-unfolding bytes
-next-n-requires c = c.loop-k.invariant.within
+pub returns-then-eq : goal.returns-then-eq
+returns-then-eq c = walk-found c.args.name.now c.loop-command.invariant c.loop-command-test.true (number-at c.loop-command.command-index _ c.loop-command-test.true) (told-same c.args.name.now c.name.ensures c.eq.ensures c.if-eq.true)
 
-pub slice_bounds-same-count : goal.slice_bounds-same-count
-slice_bounds-same-count c = c.next-n.ensures.order
-
-pub returns-then-same : goal.returns-then-same
-unfolding bytes
-returns-then-same c =
-    walk-found all_names c.args.w.now c.loop-k.invariant c.loop-k-test.true c.next-n.ensures c.same.ensures c.if-same.true
-
-pub loop-k-preserved : goal.loop-k-preserved
-unfolding bytes
-loop-k-preserved c =
-    walk-goes all_names c.args.w.now c.loop-k.invariant c.loop-k-test.true c.next-n.ensures c.same.ensures c.if-same.false
+pub loop-command-preserved : goal.loop-command-preserved
+loop-command-preserved c = walk-goes c.args.name.now c.loop-command.invariant c.loop-command-test.true (number-at c.loop-command.command-index _ c.loop-command-test.true) (told-same c.args.name.now c.name.ensures c.eq.ensures c.if-eq.false)
 
 pub returns : goal.returns
-returns c =
-    walk_ends all_names c.args.w.now c.loop-k.invariant c.loop-k-test.false
+returns c = walk_ends c.args.name.now c.loop-command.invariant c.loop-command-test.false (omega arith)

@@ -1,10 +1,6 @@
-use Rattle.std.proofs.Common.{◌-◌}
-use Rattle.lines.specs.Grammar.{command_count}
-use Rattle.lines.proofs.GrammarLaws.{Walk, all_names}
+use Rattle.lines.specs.Grammar.{grammar, command_of, number_among}
+use Rattle.std.proofs.Common.{drop, ◌≡◌, ◌+◌}
 use Rattle.lines.proofs.grammar.find.Given as goal
 
-abbrev pub invariant-loop-k : goal.invariant-loop-k
-invariant-loop-k l = Walk all_names l.w l.at l.k
-
-abbrev pub decreases-loop-k : goal.decreases-loop-k
-decreases-loop-k l = command_count - l.k
+abbrev pub invariant-loop-command : goal.invariant-loop-command
+invariant-loop-command l = command_of l.name ≡ l.command-index + number_among (drop l.command-index grammar) l.name

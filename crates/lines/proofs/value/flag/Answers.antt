@@ -1,18 +1,16 @@
 use Rattle.lines.specs.Values.{flag_in}
 use Rattle.rules.specs.Listing.{bytes}
-use Rattle.std.proofs.Common.{sym, ◌∙◌}
+use Rattle.lines.proofs.WordLaws.{told-same}
 use Rattle.lines.proofs.value.flag.Goals as goal
 
-pub returns-then-same : goal.returns-then-same
+pub returns-then-eq : goal.returns-then-eq
 unfolding flag_in bytes
-returns-then-same c = rw (sym c.same.ensures ∙ c.if-same.true)
+returns-then-eq c = rw (told-same c.args.w.now c.as_slice.ensures c.eq.ensures c.if-eq.true)
 
-pub returns-then-same-2 : goal.returns-then-same-2
+pub returns-then-eq-2 : goal.returns-then-eq-2
 unfolding flag_in bytes
-returns-then-same-2 c =
-    rw (sym c.same.ensures ∙ c.if-same.false, sym c.same-2.ensures ∙ c.if-same-2.true)
+returns-then-eq-2 c = rw (told-same c.args.w.now c.as_slice.ensures c.eq.ensures c.if-eq.false, told-same c.args.w.now c.as_slice-else-eq.ensures c.eq-else-eq.ensures c.if-eq-2.true)
 
-pub returns : goal.returns
+pub returns-else-eq-2 : goal.returns-else-eq-2
 unfolding flag_in bytes
-returns c =
-    rw (sym c.same.ensures ∙ c.if-same.false, sym c.same-2.ensures ∙ c.if-same-2.false)
+returns-else-eq-2 c = rw (told-same c.args.w.now c.as_slice.ensures c.eq.ensures c.if-eq.false, told-same c.args.w.now c.as_slice-else-eq.ensures c.eq-else-eq.ensures c.if-eq-2.false)

@@ -1,23 +1,20 @@
 use Rattle.lines.specs.Values.{wish_in}
 use Rattle.rules.specs.Listing.{bytes}
-use Rattle.std.proofs.Common.{sym, ◌∙◌}
+use Rattle.lines.proofs.WordLaws.{told-same}
 use Rattle.lines.proofs.value.wish.Goals as goal
 
-pub returns-then-same : goal.returns-then-same
+pub returns-then-eq : goal.returns-then-eq
 unfolding wish_in bytes
-returns-then-same c = rw (sym c.same.ensures ∙ c.if-same.true)
+returns-then-eq c = rw (told-same c.args.w.now c.as_slice.ensures c.eq.ensures c.if-eq.true)
 
-pub returns-then-same-2 : goal.returns-then-same-2
+pub returns-then-eq-2 : goal.returns-then-eq-2
 unfolding wish_in bytes
-returns-then-same-2 c =
-    rw (sym c.same.ensures ∙ c.if-same.false, sym c.same-2.ensures ∙ c.if-same-2.true)
+returns-then-eq-2 c = rw (told-same c.args.w.now c.as_slice.ensures c.eq.ensures c.if-eq.false, told-same c.args.w.now c.as_slice-else-eq.ensures c.eq-else-eq.ensures c.if-eq-2.true)
 
-pub returns-then-same-3 : goal.returns-then-same-3
+pub returns-then-eq-3 : goal.returns-then-eq-3
 unfolding wish_in bytes
-returns-then-same-3 c =
-    rw (sym c.same.ensures ∙ c.if-same.false, sym c.same-2.ensures ∙ c.if-same-2.false, sym c.same-3.ensures ∙ c.if-same-3.true)
+returns-then-eq-3 c = rw (told-same c.args.w.now c.as_slice.ensures c.eq.ensures c.if-eq.false, told-same c.args.w.now c.as_slice-else-eq.ensures c.eq-else-eq.ensures c.if-eq-2.false, told-same c.args.w.now c.as_slice-else-eq-2.ensures c.eq-else-eq-2.ensures c.if-eq-3.true)
 
-pub returns : goal.returns
+pub returns-else-eq-3 : goal.returns-else-eq-3
 unfolding wish_in bytes
-returns c =
-    rw (sym c.same.ensures ∙ c.if-same.false, sym c.same-2.ensures ∙ c.if-same-2.false, sym c.same-3.ensures ∙ c.if-same-3.false)
+returns-else-eq-3 c = rw (told-same c.args.w.now c.as_slice.ensures c.eq.ensures c.if-eq.false, told-same c.args.w.now c.as_slice-else-eq.ensures c.eq-else-eq.ensures c.if-eq-2.false, told-same c.args.w.now c.as_slice-else-eq-2.ensures c.eq-else-eq-2.ensures c.if-eq-3.false)

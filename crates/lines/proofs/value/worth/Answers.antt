@@ -1,23 +1,27 @@
 use Rattle.lines.specs.Values.{value_in}
-use Rattle.std.proofs.Common.{◌∙◌, ne_eqb}
+use Rattle.lines.proofs.ValueLaws.{flag-worded, wish-tag, number-worth}
+use Rattle.std.proofs.Common.{◌∙◌, ap, Ok}
 use Rattle.lines.proofs.value.worth.Goals as goal
 
-pub returns-in-99 : goal.returns-in-99
-unfolding value_in
-returns-in-99 c = c.count.ensures ∙ rw c.in-99.is
+pub returns-in-Number : goal.returns-in-Number
+returns-in-Number c = c.number.ensures ∙ number-worth c.args.kind c.args.w.now c.in-Number.is
 
-pub returns-in-121 : goal.returns-in-121
+pub returns-in-Count : goal.returns-in-Count
 unfolding value_in
-returns-in-121 c = c.flag.ensures ∙ rw c.in-121.is
+returns-in-Count c = rw c.in-Count.is c.count.ensures
 
-pub returns-in-119 : goal.returns-in-119
+pub returns-in-Flag : goal.returns-in-Flag
 unfolding value_in
-returns-in-119 c = c.wish.ensures ∙ rw c.in-119.is
+returns-in-Flag c = rw c.in-Flag.is (ap Ok (flag-worded c.flag.result c.map_or.ensures) ∙ c.flag.ensures)
 
-pub returns-in-115 : goal.returns-in-115
+pub returns-in-Some : goal.returns-in-Some
 unfolding value_in
-returns-in-115 c = c.name_worth.ensures ∙ rw c.in-115.is
+returns-in-Some c = rw c.in-Wish.is (ap Ok (wish-tag c.in-Some.wish) ∙ c.in-Some.ensures)
 
-pub returns-in_default : goal.returns-in_default
+pub returns-in-None : goal.returns-in-None
 unfolding value_in
-returns-in_default c = c.number.ensures ∙ simp (ne_eqb _ _ c.in_default.in_default-own.rest.0.0.0.1, ne_eqb _ _ c.in_default.in_default-own.rest.0.0.1, ne_eqb _ _ c.in_default.in_default-own.rest.0.1, ne_eqb _ _ c.in_default.in_default-own.rest.1)
+returns-in-None c = rw c.in-Wish.is c.in-None.ensures
+
+pub returns-in-Name : goal.returns-in-Name
+unfolding value_in
+returns-in-Name c = rw c.in-Name.is c.name_worth.ensures

@@ -1,10 +1,9 @@
-use Rattle.std.proofs.Common.{◌-◌, ◌++◌}
-use Rattle.words.specs.Reading.{bytes_of}
-use Rattle.names.proofs.NameLaws.{Shown}
+use Rattle.std.proofs.Common.{◌≡◌, ℕ, ◌<◌, ◌≤◌, get_or}
+use Rattle.rules.specs.Listing.{shown}
 use Rattle.names.proofs.shown.shown_name.Given as goal
 
-abbrev pub invariant-loop-len : goal.invariant-loop-len
-invariant-loop-len l = Shown (bytes_of l.a ++ bytes_of l.b) l.bytes l.len
-
-abbrev pub decreases-loop-len : goal.decreases-loop-len
-decreases-loop-len l = 16 - l.len
+abbrev pub invariant-loop-b : goal.invariant-loop-b
+invariant-loop-b l = record {
+  done : (k : ℕ) → k < l.b-index → get_or l.b-items k 0 ≡ shown (get_or l.initial.b-items k 0);
+  rest : (k : ℕ) → l.b-index ≤ k → get_or l.b-items k 0 ≡ get_or l.initial.b-items k 0;
+}

@@ -7,4 +7,4 @@ returns-then-b-eq10 c =
 
 pub returns : goal.returns
 returns c =
-    heard-more c.args.t.now c.args.line.now c.args.out.now c.args.p c.args.b c.if-b-eq10.false c.requires.sound c.requires.for_answer c.push-len.ensures.0 c.push-len.ensures.1
+    heard-more c.args.t.now c.args.line.now c.args.out.now c.args.p c.args.b c.if-b-eq10.false c.requires.sound c.requires.for_answer c.push.ensures.0 c.push.ensures.1

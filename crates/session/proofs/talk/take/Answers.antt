@@ -1,5 +1,5 @@
-use Rattle.session.proofs.TalkLaws.{none-heard, ready, next, took}
-use Rattle.std.proofs.Common.{refl, arith}
+use Rattle.session.proofs.TalkLaws.{none-heard, next}
+use Rattle.std.proofs.Common.{arith}
 use Rattle.rules.specs.Sizes.{slot_count, hart_count, name_size}
 use Rattle.session.proofs.talk.take.Goals as goal
 
@@ -8,31 +8,26 @@ unfolding slot_count hart_count name_size
 overflow_sub-last c =
     omega (arith, c.requires.for_answer)
 
-pub loop-used-init : goal.loop-used-init
-loop-used-init c =
-    none-heard _ _ _ _ _ refl c.requires _ (omega arith)
+pub loop-i-init : goal.loop-i-init
+loop-i-init c = none-heard c.args.chunk.now c.requires
 
-pub returns-then-at-last : goal.returns-then-at-last
+pub returns-then-p-last : goal.returns-then-p-last
 unfolding slot_count hart_count name_size
-returns-then-at-last c =
-    took _ _ _ _ _ c.loop-used.invariant (λ h. absurd (omega (arith, h, c.if-at-last.true, c.loop-used.invariant.out-same)))
+returns-then-p-last c = record {
+  holds = c.loop-i.invariant;
+  used = omega (arith, c.loop-i-test.true);
+  all = λ h. absurd (omega (arith, h, c.if-p-last.true, c.loop-i.auto.out));
+}
 
-pub feed-e-requires : goal.feed-e-requires
+pub feed-p-requires : goal.feed-p-requires
 unfolding slot_count hart_count name_size
-feed-e-requires c =
-    ready _ _ _ _ _ c.loop-used.invariant c.requires.for_line c.requires.for_name (omega (arith, c.if-at-last.false, c.requires.for_answer, c.loop-used.invariant.out-same))
+feed-p-requires c = record {
+  sound = c.loop-i.invariant.sound;
+  for_line = omega (arith, c.requires.for_line, c.loop-i.auto.line);
+  for_name = omega (arith, c.requires.for_name, c.loop-i.auto.name);
+  len = c.loop-i.invariant.len;
+  for_answer = omega (arith, c.requires.for_answer, c.if-p-last.false, c.loop-i.auto.out);
+}
 
-pub overflow_add-used : goal.overflow_add-used
-overflow_add-used c =
-    omega (arith, c.loop-used-test)
-
-pub loop-used-smaller : goal.loop-used-smaller
-loop-used-smaller c =
-    omega (arith, c.loop-used-test)
-
-pub loop-used-preserved : goal.loop-used-preserved
-loop-used-preserved c =
-    next _ _ _ _ _ c.loop-used.invariant (omega (arith, c.loop-used-test)) c.feed-e.ensures c.feed-e.auto.line c.feed-e.auto.name c.feed-e.auto.out
-
-pub returns : goal.returns
-returns c = took _ _ _ _ _ c.loop-used.invariant (λ h. omega (arith, c.loop-used-test))
+pub loop-i-preserved : goal.loop-i-preserved
+loop-i-preserved c = next _ _ _ c.loop-i.invariant c.feed-p.ensures c.loop-i-test.true

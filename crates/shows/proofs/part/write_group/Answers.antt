@@ -7,8 +7,8 @@ use Rattle.rules.specs.Listing.{bytes}
 use Rattle.std.proofs.Common.{rules}
 use Rattle.shows.proofs.part.write_group.Goals as goal
 
-pub group_at-group-requires : goal.group_at-group-requires
-group_at-group-requires c =
+pub group_at-requires : goal.group_at-requires
+group_at-requires c =
     rw c.in-Some.is at c.requires.0
 
 pub returns-in-None : goal.returns-in-None
@@ -19,4 +19,4 @@ returns-in-None c =
 pub returns-in-Some : goal.returns-in-Some
 unfolding group_text field bytes
 returns-in-Some c =
-    (wrote_as (group_text (table_of c.args.t.now).books) _ {x = c.args.g} c.in-Some.is (rw c.group_at-group.ensures at (wrote-more c.write_field-on.ensures.0 c.write_field.ensures.0)), search rules)
+    (wrote_as (group_text (table_of c.args.t.now).books) _ {x = c.args.g} c.in-Some.is (rw c.group_at.ensures at (wrote-more c.write_field-on.ensures.0 c.write_field.ensures.0)), search rules)

@@ -1,4 +1,3 @@
-use Rattle.std.specs.Prelude.{Ok}
 use Rattle.std.proofs.Common.{arith}
 use Rattle.buffers.proofs.TextLaws.{wrote_as, wrote-more}
 use Rattle.pieces.specs.Pieces.{field}
@@ -13,4 +12,4 @@ returns-in-Ok c =
 pub returns-in-Err : goal.returns-in-Err
 unfolding said_of field bytes
 returns-in-Err c =
-    (wrote_as said_of _ {x = c.args.a} c.in-Err.is (rw c.number_of.ensures at (wrote-more (wrote-more c.write_field-on.ensures.0 c.write-after.ensures) c.write_refusal.ensures.0)), omega (arith, c.write_field-on.ensures.1, c.write-after.ensures.place, c.write_refusal.ensures.1))
+    (wrote_as said_of _ {x = c.args.a} c.in-Err.is (rw (c.number_of.ensures, c.words_of.ensures.words) at (wrote-more (wrote-more c.write_field-on.ensures.0 c.write-after.ensures) c.write.ensures)), omega (arith, c.write_field-on.ensures.1, c.write-after.ensures.place, c.write.ensures.place, c.words_of.ensures.short))

@@ -1,2 +1,0 @@
-pub mod ForkLaws
-pub mod ThreadLaws

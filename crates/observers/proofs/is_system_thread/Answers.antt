@@ -1,6 +1,0 @@
-use Rattle.std.proofs.Common.{ap}
-use Rattle.rules.specs.declared.Kin.{Kin}
-use Rattle.observers.proofs.is_system_thread.Goals as goal
-
-pub returns : goal.returns
-returns c = ap (λ (k : Kin). k.system) c.kin_of-k.ensures

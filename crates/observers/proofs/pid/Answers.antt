@@ -1,6 +1,0 @@
-use Rattle.std.proofs.Common.{ap}
-use Rattle.rules.specs.declared.ProcMeta.{ProcMeta}
-use Rattle.observers.proofs.pid.Goals as goal
-
-pub returns : goal.returns
-returns c = ap (λ (m : ProcMeta). m.pid) c.meta_of-m.ensures

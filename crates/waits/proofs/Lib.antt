@@ -1,2 +1,0 @@
-pub mod StatusLaws
-pub mod WaitLaws
