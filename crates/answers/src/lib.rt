@@ -34,6 +34,7 @@ pub fn put(b: &mut [u64], at: usize, x: u64, y: u64, z: u64)
     b[at..at + WORDS].copy_from_slice(&[x, y, z]);
 }
 
+#[inline(always)]
 #[tactic(auto, unfolding(crate::specs::Words::coded, crate::specs::Words::word_of, rules::specs::Answers::values_of))]
 fn write_grant(b: &mut [u64], at: usize, g: Grant)
     requires { at + answer_words ≤ length b.old }
@@ -49,6 +50,7 @@ fn write_grant(b: &mut [u64], at: usize, g: Grant)
     }
 }
 
+#[inline(always)]
 #[tactic(auto, unfolding(crate::specs::Words::coded, crate::specs::Words::word_of, rules::specs::Answers::values_of))]
 pub fn write(b: &mut [u64], at: usize, a: Answer)
     requires { at + answer_words ≤ length b.old }
