@@ -4,4 +4,4 @@ use Rattle.session.specs.Places.{seat_of, Seated}
 use Rattle.session.proofs.talk.take.Given as goal
 
 abbrev pub invariant-loop-i : goal.invariant-loop-i
-invariant-loop-i l = Seated (hears (seat_of l.initial.t l.initial.line l.initial.out l.initial.p) (take l.i l.chunk)) l.initial.out l.t l.line l.out l.p
+invariant-loop-i l = Seated (hears (seat_of l.initial.t l.initial.line l.initial.out (record { len = l.initial.len; number = l.initial.number; at = l.initial.at })) (take l.i l.chunk)) l.initial.out l.t l.line l.out (record { len = l.len; number = l.number; at = l.at })
