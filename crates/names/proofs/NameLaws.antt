@@ -1,6 +1,6 @@
 -- A name shown byte by byte, up to the first zero.
-use Rattle.std.proofs.Common.{◌≡◌, ℕ, zero, suc, ◌<◌, ◌≤◌, List, [], ◌∷◌, length, get_or, take, map, refl, sym, ap, ◌∙◌, arith, eq-eqb, ext_get_or}
-use Rattle.std.proofs.lemmas.List.{take-map, length-map, get_or-map}
+use Rattle.std.proofs.Common.{◌≡◌, ℕ, zero, suc, ◌<◌, ◌≤◌, List, [], ◌∷◌, ◌++◌, length, get_or, take, map, refl, sym, ap, ◌∙◌, arith, eq-eqb, ext_get_or}
+use Rattle.std.proofs.lemmas.List.{take_at, length-map, get_or-map}
 use Rattle.std.specs.List.{AllWithin, HoldsAt}
 use Rattle.std.specs.Option.{MatchOption, unwrap_or}
 use Rattle.std.specs.Prelude.{Option, Some, None}
@@ -22,13 +22,15 @@ pub mapped : (f : ℕ → ℕ) (l m : List ℕ) → length m ≡ length l → ((
 mapped f l m e h = ext_get_or 0 m _ (e ∙ sym (length-map l f)) (λ i g. h i (omega arith) ∙ sym (get_or-map f l i 0 0 (omega arith)))
 
 -- r is the place of the first zero, n that or the name's length
-pub shown-first : (name l : List ℕ) (r : Option ℕ) (n : ℕ)
+pub first-zero : (name : List ℕ) (r : Option ℕ) (n : ℕ)
     → MatchOption r (AllWithin (λ x. x ≡ 0 → ⊥) name 0 (length name)) (λ i. (i < length name) × HoldsAt (λ x. x ≡ 0) name i × AllWithin (λ x. x ≡ 0 → ⊥) name 0 i)
-    → l ≡ map shown name → n ≡ unwrap_or r (length name) → (take n l ≡ name_shown name) × (n ≤ length name)
+    → n ≡ unwrap_or r (length name) → (up_to_zero name ≡ take n name) × (n ≤ length name)
+first-zero name None n none m =
+    (up_to-place name n (omega arith) (λ k h. none k 0 (omega arith) (omega arith)) (λ h. absurd (omega arith)), omega arith)
+first-zero name (Some i) n (within, at, before) m =
+    (rw m (up_to-place name i (omega arith) (λ k h. before k 0 (omega arith) h) (λ h. at 0)), omega arith)
+
+-- l is shown of the name up to there, whatever stands behind it
+pub shown-front : (name l rest : List ℕ) (n : ℕ) → (up_to_zero name ≡ take n name) → length l ≡ n → l ≡ map shown (take n name) → take n (l ++ rest) ≡ name_shown name
 unfolding name_shown
-shown-first name l None n none e m =
-    let u : up_to_zero name ≡ take n name = up_to-place name n (omega arith) (λ k h. none k 0 (omega arith) (omega arith)) (λ h. absurd (omega arith)) in
-    (rw (e, take-map, u), omega arith)
-shown-first name l (Some i) n (within, at, before) e m =
-    let u : up_to_zero name ≡ take i name = up_to-place name i (omega arith) (λ k h. before k 0 (omega arith) h) (λ h. at 0) in
-    (rw (e, m, take-map, u), omega arith)
+shown-front name l rest n u e m = take_at l rest n e ∙ m ∙ ap (map shown) (sym u)

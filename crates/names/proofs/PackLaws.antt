@@ -2,13 +2,16 @@
 use Prim.Native.Nat.{ℕ, zero, suc, ◌+◌, ◌≤◌, ◌<◌}
 use native.Mathlib.Omega.{arith}
 use native.Mathlib.Nat.{div-one}
-use mathlib.Core.Path.{◌≡◌, refl, sym, ◌∙◌}
+use mathlib.Core.Path.{◌≡◌, refl, sym, ap, ◌∙◌}
+use mathlib.Core.Logic.{◌⊎◌, inl, inr}
 use mathlib.Core.List.{List, [], ◌∷◌, ◌++◌}
-use lib.ListN.{length, take, get_or, replicate, length-append, length-replicate}
-use lib.Seq.{length-take-le, get_or-take, ext_get_or}
+use lib.ListN.{length, take, drop, get_or, replicate, length-append, length-replicate}
+use lib.Seq.{length-take-le, get_or-take, get_or-drop, ext_get_or}
 use Rattle.std.specs.Int.{w64, to_le_bytes, from_le_bytes}
+use Rattle.std.specs.List.{slice_range}
 use Rattle.std.proofs.lemmas.Nat.{le_bytes_8}
-use Rattle.std.proofs.lemmas.List.{same_lists, places}
+use Rattle.std.proofs.lemmas.Bool.{cases_lt}
+use Rattle.std.proofs.lemmas.List.{get_or_past, take_rest, same_lists, places}
 use Rattle.rules.specs.Sizes.{name_size}
 use Rattle.rules.specs.Calls.{padded}
 use Rattle.promises.specs.Laws.Lists.{same-all}
@@ -27,6 +30,28 @@ pub eight : (l : List ℕ) (f : ℕ → ℕ) → length l ≡ 8
     → l ≡ tab 8 f
 unfolding tab tab_from
 eight l f long (a, b, c, d, e, g, h, i) = rw (← a, ← b, ← c, ← d, ← e, ← g, ← h, ← i) (same_lists l _ long (λ k d h. grind (arith, places)))
+
+tab-small : (f : ℕ → ℕ) → ((i : ℕ) → f i < 256) → (i : ℕ) → (i < 8) ⊎ (8 ≤ i) → get_or (tab 8 f) i 0 < 256
+tab-small f h i (inl k) = rw (get_d-tab 8 f i 0 k) (h i)
+tab-small f h i (inr k) = rw (get_or_past (tab 8 f) i 0 (rw (length-tab 8 f) k)) (omega arith)
+
+-- eight bytes that a word was made of
+pub word-of : (l : List ℕ) (f : ℕ → ℕ) {n : ℕ} → n ≡ from_le_bytes w64 l → ((i : ℕ) → f i < 256) → l ≡ tab 8 f → bytes_of n ≡ tab 8 f
+word-of l f e small same = of-le_bytes l _ (rw same (length-tab 8 f)) (λ i. rw same (tab-small f small i (cases_lt i 8))) e ∙ same
+
+-- the first eight bytes of a part that goes on to the end
+pub whole : (l : List ℕ) (from : ℕ) {rest bytes : List ℕ} → rest ≡ slice_range l from (length l) → 8 ≤ length rest → bytes ≡ take 8 rest → bytes ≡ tab 8 (λ i. get_or l (from + i) 0)
+whole l from {rest} {bytes} part long e = ext_get_or 0 bytes _ (eight_bytes ∙ sym (length-tab 8 _)) (λ i h. byte i (rw (← eight_bytes) h))
+  where
+    eight_bytes : length bytes ≡ 8
+    eight_bytes = ap length e ∙ length-take-le 8 rest long
+
+    byte : (i : ℕ) → i < 8 → get_or bytes i 0 ≡ get_or (tab 8 (λ i. get_or l (from + i) 0)) i 0
+    byte i h =
+        ap (λ (k : List ℕ). get_or k i 0) (e ∙ ap (take 8) (part ∙ take_rest l from))
+        ∙ get_or-take 8 (drop from l) i 0 h
+        ∙ get_or-drop from l i 0
+        ∙ sym (get_d-tab 8 (λ i. get_or l (from + i) 0) i 0 h)
 
 -- ---- the name, with zeros after it
 zeros-after : (l : List ℕ) (m i : ℕ) → get_or (l ++ replicate m 0) i 0 ≡ get_or l i 0

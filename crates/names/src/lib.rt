@@ -15,11 +15,16 @@ pub struct NameWords {
     pub high: u64,
 }
 
-// Eight bytes, the lowest first, with zeros past the end.
+// Eight bytes, the lowest first, with zeros past the end; at once where the name has all eight.
 fn word(name: &[u8], from: usize) -> u64
     requires { from ≤ 8 }
     ensures { bytes_of result ≡ tab 8 (λ i. get_or name.now (from + i) 0) }
 {
+    if let Some(rest) = name.get(from..)
+        && let Some(whole) = rest.first_chunk()
+    {
+        return u64::from_le_bytes(*whole);
+    }
     u64::from_le_bytes(array::from_fn(|i| name.get(from + i).copied().unwrap_or(0)))
 }
 

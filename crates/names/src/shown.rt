@@ -26,7 +26,7 @@ pub fn shown_name(a: u64, b: u64) -> Name
     let mut bytes = crate::unpack(a, b);
     let len = bytes.iter().position(|b| *b == 0).unwrap_or(bytes.len());
     // `bytes.map(show)` takes ten times as long.
-    for b in &mut bytes {
+    for b in &mut bytes[..len] {
         *b = show(*b);
     }
     Name { bytes, len }
