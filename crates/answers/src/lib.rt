@@ -34,30 +34,34 @@ pub fn put(b: &mut [u64], at: usize, x: u64, y: u64, z: u64)
     b[at..at + WORDS].copy_from_slice(&[x, y, z]);
 }
 
-#[inline(always)]
 #[tactic(auto, unfolding(crate::specs::Words::coded, crate::specs::Words::word_of, rules::specs::Answers::values_of))]
-fn write_grant(b: &mut [u64], at: usize, g: Grant)
-    requires { at + answer_words ≤ length b.old }
-    ensures { b.new ≡ put b.old at (coded (Ok g)) }
+fn coded_grant(g: Grant) -> [u64; WORDS]
+    ensures { result ≡ coded (Ok g) }
 {
     match g {
-        Grant::Done => put(b, at, 0, 0, 0),
-        Grant::Made(p) => put(b, at, 1, p.0, 0),
-        Grant::Handed(s) => put(b, at, 2, s.0 as u64, 0),
-        Grant::Reaped(p, x) => put(b, at, 3, p.0, x),
-        Grant::Joined(x) => put(b, at, 4, word_of(x), 0),
-        Grant::Blocked => put(b, at, 5, 0, 0),
+        Grant::Done => [0, 0, 0],
+        Grant::Made(p) => [1, p.0, 0],
+        Grant::Handed(s) => [2, s.0 as u64, 0],
+        Grant::Reaped(p, x) => [3, p.0, x],
+        Grant::Joined(x) => [4, word_of(x), 0],
+        Grant::Blocked => [5, 0, 0],
     }
 }
 
-#[inline(always)]
 #[tactic(auto, unfolding(crate::specs::Words::coded, crate::specs::Words::word_of, rules::specs::Answers::values_of))]
+pub fn coded(a: Answer) -> [u64; WORDS]
+    ensures { result ≡ coded a }
+{
+    match a {
+        Ok(g) => coded_grant(g),
+        Err(r) => [6, number_of(r), 0],
+    }
+}
+
 pub fn write(b: &mut [u64], at: usize, a: Answer)
     requires { at + answer_words ≤ length b.old }
     ensures { b.new ≡ put b.old at (coded a) }
 {
-    match a {
-        Ok(g) => write_grant(b, at, g),
-        Err(r) => put(b, at, 6, number_of(r), 0),
-    }
+    let [x, y, z] = coded(a);
+    put(b, at, x, y, z);
 }

@@ -15,15 +15,10 @@ pub mod slot; // a slot in ten words
 // The first word of an answer that is a text's length: a number, since C reads it.
 const LISTED: u64 = 7;
 
-// Into each exported call, which knows what answers it can give: see docs/SPEED.md.
-#[inline(always)]
-#[tactic(auto, using(crate::proofs::SightLaws::three_words))]
 pub fn words_of(a: Answer) -> [u64; answers::WORDS]
     ensures { result ≡ coded a }
 {
-    let mut w = [0; answers::WORDS];
-    answers::write(&mut w, 0, a);
-    w
+    answers::coded(a)
 }
 
 #[tactic(auto, unfolding(crate::specs::Sights::room_words))]
