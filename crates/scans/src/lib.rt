@@ -34,8 +34,7 @@ fn is_child_of(t: &[u64; Table::WORDS], s: usize, i: usize) -> bool
     requires { i < slot_count }
     ensures { result ≡ child_of s (at (table_of t.now).core i) }
 {
-    let kin = slot::kin_at(t, i);
-    kin.parent == Some(Slot(s)) && !kin.thread
+    slot::parent_at(t, i) == Some(Slot(s)) && !slot::kin_at(t, i).thread
 }
 
 #[tactic(auto, unfolding(rules::specs::Calls::zombie_child_of))]

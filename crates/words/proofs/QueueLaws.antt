@@ -31,7 +31,7 @@ module _ (r : RingAt) (w : List ℕ) where
   }
 
   -- who waits at place i of the queue
-  place-law : (i : ℕ) → length (queue_at r w) ≤ slot_count → i < length (queue_at r w) → place_at r w i ≡ get_or (queue_at r w) i 0
+  pub place-law : (i : ℕ) → length (queue_at r w) ≤ slot_count → i < length (queue_at r w) → place_at r w i ≡ get_or (queue_at r w) i 0
   unfolding queue_at ring_of places_of place_at
   place-law i fits l =
       sym (queue-at slot_count turns port-rounds (ring_of r w) (length (queue_at r w)) (ring-holds _ refl fits) i l

@@ -44,7 +44,10 @@ pub fn flag_word(b: bool) -> u64
 fn place_of(n: u64) -> Option<usize>
     ensures { (result ≡ member_of n) × InGroups result }
 {
-    n.checked_sub(1).map(|k| (k % Table::SLOTS as u64) as usize)
+    match n {
+        0 => None,
+        _ => Some(((n - 1) % Table::SLOTS as u64) as usize),
+    }
 }
 
 fn place_word(p: Option<usize>) -> u64
