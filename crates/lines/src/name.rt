@@ -5,11 +5,16 @@ ghost use Rattle.lines.specs.Values.{nibble, all_below, unhex, name_good, name_b
 
 use crate::value;
 
+#[tactic(auto, unfolding(crate::specs::Values::nibble, crate::specs::Values::inside))]
 fn nibble(digit: u8) -> u8
     requires { nibble digit < 16 }
     ensures { result ≡ nibble digit }
 {
-    char::from(digit).to_digit(16).unwrap() as u8
+    match digit {
+        b'0'..=b'9' => digit - b'0',
+        b'A'..=b'F' => digit - b'A' + 10,
+        _ => digit - b'a' + 10,
+    }
 }
 
 // Two digits for each byte.
