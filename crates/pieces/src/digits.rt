@@ -40,5 +40,6 @@ pub fn write(buffer: &mut [u8], at: usize, n: u64) -> usize
     requires { at + length (digits n) ≤ length buffer.old }
     ensures { Wrote buffer.old at (digits n) buffer.new result }
 {
-    buffers::write(buffer, at, decimal(n).as_slice())
+    let Digits { bytes, from } = decimal(n);
+    buffers::write(buffer, at, &bytes[from..])
 }

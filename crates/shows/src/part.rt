@@ -90,5 +90,7 @@ pub fn write_start(t: &[u64; Table::WORDS], out: &mut [u8], to: usize, s: usize)
     let a = pieces::write_field(out, to, b" trapframe ", trapframe_at(w.below));
     let b = pieces::write_field(out, a, b" sp ", w.sp);
     let c = write_record(out, b, w);
-    write_name(out, c, w)
+    // Read once more, and not kept so long: it would lie on the stack.
+    let named = slot::start_at(t, s);
+    write_name(out, c, named)
 }
