@@ -1,15 +1,19 @@
 -- A size plus a signed count, within the limits.
-use Rattle.std.specs.Prelude.{Option, Some, None, SomeIff, MatchOption, cond, leb}
+use Rattle.std.specs.Prelude.{Option, Some, None, Result, Ok, Err, SomeIff, OkIff, MatchOption, cond, leb}
+use Rattle.std.specs.Result.{result_ok}
 use Rattle.std.specs.Bool.{then_some}
 use Rattle.std.specs.Int.{FitsUnsigned}
-use Prim.Native.Nat.{ℕ, ◌^◌, ◌≤◌, ◌<◌}
+use Prim.Native.Nat.{ℕ, suc, ◌^◌, ◌≤◌, ◌<◌}
 use native.Mathlib.Omega.{arith}
 use mathlib.Core.Path.{◌≡◌, refl, ◌∙◌}
 use mathlib.Core.Bool.{Bool, true, false}
-use lib.IntN.{ℤ, pos, negsuc, nat_abs}
-use mir.Syntax.{w64}
-use borrow.Author.Tests.{lt-leb, ltb-false, ltb-true}
+use mathlib.Core.Logic.{◌⊎◌, inl, inr}
+use lib.IntN.{ℤ, pos, negsuc, nat_abs, ◌+ℤ◌}
+use mir.Syntax.{w64, w128}
+use mir.Val.{SFits}
+use borrow.Author.Tests.{lt-ltb, le-ltb, lt-leb, ltb-false, ltb-true}
 use lib.Dec.{ltb}
+use Rattle.std.proofs.lemmas.Bool.{cases_lt}
 use Rattle.std.proofs.lemmas.Int.{ints}
 use Rattle.rules.specs.Sizes.{size_top, slot_count, page_size, trampoline, trapframe}
 use Rattle.rules.specs.Calls.{within}
@@ -36,3 +40,16 @@ filtered None (pos n) f e t = rw (over n f) e
 filtered None (negsuc n) f e t = e
 filtered (Some x) (pos n) f (b, g, e) t = let k : x ≡ n = f.1 in rw (← k) (e ∙ rw (t x b g) (kept (leb x size_top) refl))
 filtered (Some x) (negsuc n) f e t = absurd (omega (arith, ints, f.0))
+
+-- the sum in 128 bits is the sum
+pub sum-fits : (n : ℕ) (z : ℤ) → n < 2 ^ 64 → SFits w64 z → SFits w128 (pos n +ℤ z)
+sum-fits n (pos m) a f = let g : m < 2 ^ 63 = f.sfits in record { sfits = omega arith }
+sum-fits n (negsuc m) a f = go f.sfits (cases_lt n (suc m))
+  where
+    go : m < 2 ^ 63 → (n < suc m) ⊎ (suc m ≤ n) → SFits w128 (pos n +ℤ negsuc m)
+    go g (inl l) = rw (lt-ltb n (suc m) l) record { sfits = omega arith }
+    go g (inr l) = rw (le-ltb n (suc m) l) record { sfits = omega arith }
+
+pub given : {E : Type 0} (P : Type 0) (v : ℕ) (r : Result ℕ E) (o : Option ℕ) → o ≡ result_ok r → OkIff r P v → SomeIff o P v
+given P v (Ok x) o e d = rw e d
+given P v (Err y) o e d = rw e d

@@ -17,7 +17,8 @@ const SIZE_TOP: u64 = stacks::TRAPFRAME - (Table::SLOTS as u64) * stacks::PAGE;
 fn new_size(size: u64, count: i64) -> Option<u64>
     ensures { result ≡ within (pos size +ℤ count) }
 {
-    size.checked_add_signed(count).filter(|&n| n <= SIZE_TOP)
+    let sum = i128::from(size) + i128::from(count);
+    u64::try_from(sum).ok().filter(|&n| n <= SIZE_TOP)
 }
 
 // The host's answer counts only if the count is positive.
